@@ -1,0 +1,116 @@
+-- Each contract of this crate allows one answer alone. What an answer says, and a refusal's number, have left inverses: so two answers that say the same are the same.
+-- Assumes nothing.
+use mathlib.Core.Path.{_≡_, refl, sym, ap, _∙_}
+use mathlib.Core.Bool.{Bool, _&&_}
+use mathlib.Core.List.{List, [], _∷_}
+use Prim.Native.Nat.{ℕ, _-_}
+use lib.Dec.{leb}
+use lib.IntN.{ℤ}
+use lib.ListN.{getD}
+use Rattle.triple.specs.declared.Triple.{Triple}
+use Rattle.triple.specs.declared.ParityAnswer.{ParityAnswer}
+use Rattle.triple.specs.declared.FlavorAnswer.{FlavorAnswer}
+use Rattle.triple.specs.declared.orientation.Orientation.{Orientation}
+use Rattle.triple.specs.declared.orientation.OrientationAnswer.{OrientationAnswer}
+use Rattle.triple.specs.declared.refusal.Refusal.{Refusal}
+use Rattle.triple.specs.declared.refusal.Refusal.the-variants as Is
+use Rattle.triple.specs.Refusals.{Told, told, refused, numberOf}
+use Rattle.triple.specs.Triples.{sumOf, inBounds, parityOf, flavorOf}
+use Rattle.triple.specs.Orientations.{orientationOf, orderOf}
+use Rattle.triple.specs.Answers.{saidParity, saidFlavor, saidOrientation}
+
+pub one-to-one : {A B : Type 0} (said : A → B) (back : B → A) → ((a : A) → back (said a) ≡ a) → (a b : A) → said a ≡ said b → a ≡ b
+one-to-one said back inverse a b p = sym (inverse a) ∙ ap back p ∙ inverse b
+
+-- what is to be said then determines the answer
+pub determined : {A B : Type 0} (said : A → B) → ((a b : A) → said a ≡ said b → a ≡ b) → {d : B} (a b : A) → said a ≡ d → said b ≡ d → a ≡ b
+determined said one a b p q = one a b (p ∙ sym q)
+
+-- ---- the refusals, from number 1 up
+abbrev pub refusalOf : ℕ → Refusal
+refusalOf n = getD refusals (n - 1) Is.Resolution
+  where
+    refusals : List Refusal
+    refusals =
+        Is.Resolution ∷ Is.Orientation ∷ Is.Position ∷ Is.Sum ∷ Is.Bounds ∷ Is.Pair ∷ Is.Node ∷ Is.Digit ∷ Is.Point ∷ Is.Room ∷ Is.Code
+        ∷ Is.Shape ∷ Is.Motif ∷ Is.Rule ∷ Is.Children ∷ Is.Heading ∷ Is.Draw ∷ Is.Turns ∷ Is.Net ∷ Is.Split ∷ Is.Line ∷ Is.Table ∷ []
+
+pub numbered : (e : Refusal) → refusalOf (numberOf e) ≡ e
+unfolding numberOf
+numbered Is.Resolution = refl
+numbered Is.Orientation = refl
+numbered Is.Position = refl
+numbered Is.Sum = refl
+numbered Is.Bounds = refl
+numbered Is.Pair = refl
+numbered Is.Node = refl
+numbered Is.Digit = refl
+numbered Is.Point = refl
+numbered Is.Room = refl
+numbered Is.Code = refl
+numbered Is.Shape = refl
+numbered Is.Motif = refl
+numbered Is.Rule = refl
+numbered Is.Children = refl
+numbered Is.Heading = refl
+numbered Is.Draw = refl
+numbered Is.Turns = refl
+numbered Is.Net = refl
+numbered Is.Split = refl
+numbered Is.Line = refl
+numbered Is.Table = refl
+
+pub number-one-to-one : (e f : Refusal) → numberOf e ≡ numberOf f → e ≡ f
+number-one-to-one = one-to-one numberOf refusalOf numbered
+
+-- ---- the answers
+abbrev pub answerOf : {A B : Type 0} → (B → A) → (Refusal → A) → Told B → A
+answerOf value refusal (told v) = value v
+answerOf value refusal (refused n) = refusal (refusalOf n)
+
+parity-back : (a : ParityAnswer) → answerOf ParityAnswer.Parity ParityAnswer.Refused (saidParity a) ≡ a
+parity-back (ParityAnswer.Parity p) = refl
+parity-back (ParityAnswer.Refused e) = ap ParityAnswer.Refused (numbered e)
+
+flavor-back : (a : FlavorAnswer) → answerOf FlavorAnswer.Flavor FlavorAnswer.Refused (saidFlavor a) ≡ a
+flavor-back (FlavorAnswer.Flavor f) = refl
+flavor-back (FlavorAnswer.Refused e) = ap FlavorAnswer.Refused (numbered e)
+
+orientation-back : (a : OrientationAnswer) → answerOf OrientationAnswer.Known OrientationAnswer.Refused (saidOrientation a) ≡ a
+orientation-back (OrientationAnswer.Known o) = refl
+orientation-back (OrientationAnswer.Refused e) = ap OrientationAnswer.Refused (numbered e)
+
+pub said-parity-one-to-one : (a b : ParityAnswer) → saidParity a ≡ saidParity b → a ≡ b
+said-parity-one-to-one = one-to-one saidParity (answerOf ParityAnswer.Parity ParityAnswer.Refused) parity-back
+
+pub said-flavor-one-to-one : (a b : FlavorAnswer) → saidFlavor a ≡ saidFlavor b → a ≡ b
+said-flavor-one-to-one = one-to-one saidFlavor (answerOf FlavorAnswer.Flavor FlavorAnswer.Refused) flavor-back
+
+pub said-orientation-one-to-one : (a b : OrientationAnswer) → saidOrientation a ≡ saidOrientation b → a ≡ b
+said-orientation-one-to-one = one-to-one saidOrientation (answerOf OrientationAnswer.Known OrientationAnswer.Refused) orientation-back
+
+-- ---- the operations
+pub new-determined : (x y z : ℤ) (t u : Triple) → t ≡ record { x = x; y = y; z = z } → u ≡ record { x = x; y = y; z = z } → t ≡ u
+new-determined x y z t u p q = p ∙ sym q
+
+pub sum-determined : (t : Triple) (s u : ℤ) → s ≡ sumOf t → u ≡ sumOf t → s ≡ u
+sum-determined t s u p q = p ∙ sym q
+
+pub parity-determined : (t : Triple) (a b : ParityAnswer) → saidParity a ≡ parityOf t → saidParity b ≡ parityOf t → a ≡ b
+parity-determined t = determined saidParity said-parity-one-to-one
+
+-- of `in_bounds`, and of `in_bounds_wide` at the triple of its numbers
+pub in-bounds-determined : (r : ℕ) (t : Triple) (a b : Bool) → a ≡ (leb r 30 && inBounds r t) → b ≡ (leb r 30 && inBounds r t) → a ≡ b
+in-bounds-determined r t a b p q = p ∙ sym q
+
+pub flavor-determined : (r : ℕ) (t : Triple) (a b : FlavorAnswer) → saidFlavor a ≡ flavorOf r t → saidFlavor b ≡ flavorOf r t → a ≡ b
+flavor-determined r t = determined saidFlavor said-flavor-one-to-one
+
+pub orientation-determined : (o : ℕ) (a b : OrientationAnswer) → saidOrientation a ≡ orientationOf o → saidOrientation b ≡ orientationOf o → a ≡ b
+orientation-determined o = determined saidOrientation said-orientation-one-to-one
+
+pub order-determined : (o : Orientation) (m n : ℕ) → m ≡ orderOf o → n ≡ orderOf o → m ≡ n
+order-determined o m n p q = p ∙ sym q
+
+pub number-determined : (e : Refusal) (m n : ℕ) → m ≡ numberOf e → n ≡ numberOf e → m ≡ n
+number-determined e m n p q = p ∙ sym q

@@ -1,0 +1,2 @@
+pub mod TripleLaws
+pub mod Determined

@@ -1,0 +1,4 @@
+pub mod Refusals
+pub mod Triples
+pub mod Orientations
+pub mod Answers

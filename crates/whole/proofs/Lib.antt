@@ -1,0 +1,4 @@
+pub mod Bools
+pub mod Parts
+pub mod View
+pub mod TestLaws
