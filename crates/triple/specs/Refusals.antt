@@ -36,3 +36,9 @@ numberOf Is.Table = 22
 abbrev pub refuse : {A : Type 0} → Bool → Refusal → Told A → Told A
 refuse true e t = refused (numberOf e)
 refuse false e t = t
+
+-- what comes of the values that a call gives; a refusal stays what it is
+infixl 1 _>>=_
+abbrev pub _>>=_ : {A B : Type 0} → Told A → (A → Told B) → Told B
+told a >>= f = f a
+refused n >>= f = refused n

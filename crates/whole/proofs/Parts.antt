@@ -230,4 +230,3 @@ prod-dn (negsuc a) (negsuc b) = omega arith
 
 -- what `omega` is handed to read and prove orders and equations of integers that are variables and literals, under `unfolding up dn`. Of a sum that stands in one, hand it `add-parts`
 pub ruleset orders = (parts-le, parts-lt, parts-eq, le-parts, lt-parts, eq-parts)
-

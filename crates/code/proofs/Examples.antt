@@ -1,0 +1,42 @@
+-- Worked examples of document 01 on the position code, by computation.
+use mathlib.Core.Path.{_≡_, refl}
+use mathlib.Core.List.{List, [], _∷_}
+use Prim.Native.Nat.{ℕ, _-_, _^_}
+use Rattle.triple.specs.Refusals.{Told, told, refused, numberOf}
+use Rattle.code.specs.declared.Reading.{Reading}
+use Rattle.code.specs.Codes.{bitsOf, valueOf, bytesOf, allBits, codeLength, codeBits, codeBytes, writeOf, afterWrite, readOf}
+
+abbrev reading : ℕ → ℕ → ℕ → ℕ → Told Reading
+reading o r s n = told (record { orientation = o; resolution = r; s = s; used = n })
+
+-- case 11, the code of the one cell at resolution 0, and the longest
+pub code-examples :
+    (codeBytes 0 2 6 ≡ 0x02 ∷ 0x60 ∷ [])
+    × (codeBytes 5 1 3 ≡ 0xA1 ∷ 0xC0 ∷ [])
+    × (codeBytes 3 0 0 ≡ 0x60 ∷ [])
+    × (codeBytes 5 30 (4 ^ 30 - 1) ≡ 0xBE ∷ 0xFF ∷ 0xFF ∷ 0xFF ∷ 0xFF ∷ 0xFF ∷ 0xFF ∷ 0xFF ∷ 0xF0 ∷ [])
+unfolding bitsOf valueOf bytesOf codeLength codeBits codeBytes
+code-examples = (refl, refl, refl, refl)
+
+-- a writer's count and its buffer afterwards, and the refusals in their order
+pub write-examples :
+    (writeOf 0 2 6 (7 ∷ 8 ∷ 9 ∷ []) ≡ told 2)
+    × (afterWrite 0 2 6 (7 ∷ 8 ∷ 9 ∷ []) ≡ 0x02 ∷ 0x60 ∷ 9 ∷ [])
+    × (writeOf 6 31 (4 ^ 31) [] ≡ refused 1)
+    × (writeOf 6 30 (4 ^ 30) [] ≡ refused 2)
+    × (writeOf 5 30 (4 ^ 30) [] ≡ refused 3)
+    × (writeOf 5 1 3 (7 ∷ []) ≡ refused 10)
+    × (afterWrite 5 1 3 (7 ∷ []) ≡ 7 ∷ [])
+unfolding numberOf bitsOf valueOf bytesOf codeLength codeBits codeBytes writeOf afterWrite
+write-examples = (refl, refl, refl, refl, refl, refl, refl)
+
+-- a reader's answers, with spare bits set and a later byte there, and its refusals in their order
+pub read-examples :
+    (readOf (0x02 ∷ 0x60 ∷ []) ≡ reading 0 2 6 2)
+    × (readOf (0xA1 ∷ 0xFF ∷ 0xFF ∷ []) ≡ reading 5 1 3 2)
+    × (readOf [] ≡ refused 11)
+    × (readOf (0xDF ∷ []) ≡ refused 1)
+    × (readOf (0xDE ∷ []) ≡ refused 2)
+    × (readOf (0xBE ∷ 0 ∷ []) ≡ refused 11)
+unfolding numberOf bitsOf valueOf allBits codeLength readOf
+read-examples = (refl, refl, refl, refl, refl, refl)

@@ -1,0 +1,73 @@
+-- The position code, through its bits: its bytes, what a writer does and what a reader answers.
+use mathlib.Core.List.{List, [], _∷_, _++_}
+use Prim.Native.Nat.{ℕ, zero, suc, _+_, _-_, _*_, _/_, _%_, _^_}
+use lib.Dec.{leb, ltb, eqb}
+use lib.ListN.{length, take, drop, replicate}
+use Rattle.triple.specs.declared.refusal.Refusal.the-variants as Is
+use Rattle.triple.specs.Refusals.{Told, told, refused, refuse}
+use Rattle.code.specs.declared.Reading.{Reading}
+
+-- ---- bits, the most significant first
+-- the low n bits of v
+unfoldable pub bitsOf : ℕ → ℕ → List ℕ
+bitsOf zero v = []
+bitsOf (suc n) v = v / 2 ^ n % 2 ∷ bitsOf n v
+
+-- the number that the bits write after those of v
+abbrev pub valueAfter : ℕ → List ℕ → ℕ
+valueAfter v [] = v
+valueAfter v (b ∷ bits) = valueAfter (2 * v + b) bits
+
+unfoldable pub valueOf : List ℕ → ℕ
+valueOf bits = valueAfter 0 bits
+
+-- the first 8 n bits as n bytes, and the bits of bytes
+unfoldable pub bytesOf : ℕ → List ℕ → List ℕ
+bytesOf zero bits = []
+bytesOf (suc n) bits = valueOf (take 8 bits) ∷ bytesOf n (drop 8 bits)
+
+unfoldable pub allBits : List ℕ → List ℕ
+allBits [] = []
+allBits (b ∷ bytes) = bitsOf 8 b ++ allBits bytes
+
+-- ---- the code: orientation in 3 bits, resolution in 5, then the 2 r bits of s, then spare bits to the end of the byte, zero
+-- 1 + ceil (r / 4)
+unfoldable pub codeLength : ℕ → ℕ
+codeLength r = 1 + (r + 3) / 4
+
+unfoldable pub codeBits : ℕ → ℕ → ℕ → List ℕ
+codeBits o r s = bitsOf 3 o ++ (bitsOf 5 r ++ (bitsOf (2 * r) s ++ replicate (8 * codeLength r - (8 + 2 * r)) 0))
+
+unfoldable pub codeBytes : ℕ → ℕ → ℕ → List ℕ
+codeBytes o r s = bytesOf (codeLength r) (codeBits o r s)
+
+-- ---- the writer, lent a buffer
+-- THE COUNT of bytes written
+unfoldable pub writeOf : ℕ → ℕ → ℕ → List ℕ → Told ℕ
+writeOf o r s buffer =
+    refuse (ltb 30 r) Is.Resolution
+    (refuse (ltb 5 o) Is.Orientation
+    (refuse (leb (4 ^ r) s) Is.Position
+    (refuse (ltb (length buffer) (codeLength r)) Is.Room
+    (told (codeLength r)))))
+
+-- THE BUFFER afterwards: the code and no byte past it touched; as it was where the call is refused
+abbrev pub written : List ℕ → List ℕ → Told ℕ → List ℕ
+written code buffer (told n) = code ++ drop n buffer
+written code buffer (refused e) = buffer
+
+unfoldable pub afterWrite : ℕ → ℕ → ℕ → List ℕ → List ℕ
+afterWrite o r s buffer = written (codeBytes o r s) buffer (writeOf o r s buffer)
+
+-- ---- the reader; its tests in order: empty, resolution, orientation, cut short
+-- THE READING: spare bits and later bytes are not looked at
+unfoldable pub readOf : List ℕ → Told Reading
+readOf bytes =
+    let bits = allBits bytes in
+    let o = valueOf (take 3 bits) in
+    let r = valueOf (take 5 (drop 3 bits)) in
+    refuse (eqb (length bytes) 0) Is.Code
+    (refuse (ltb 30 r) Is.Resolution
+    (refuse (ltb 5 o) Is.Orientation
+    (refuse (ltb (length bytes) (codeLength r)) Is.Code
+    (told (record { orientation = o; resolution = r; s = valueOf (take (2 * r) (drop 8 bits)); used = codeLength r })))))

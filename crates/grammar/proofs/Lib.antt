@@ -1,0 +1,9 @@
+pub mod Grammars
+pub mod GrammarLaws
+pub mod TestLaws
+pub mod ReversalLaws
+pub mod TurnLaws
+pub mod MirrorLaws
+pub mod TokenLaws
+pub mod PassLaws
+pub mod Meaning

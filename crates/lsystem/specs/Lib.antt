@@ -1,0 +1,3 @@
+pub mod A5
+pub mod Cells
+pub mod Nodes

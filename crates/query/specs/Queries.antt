@@ -1,0 +1,17 @@
+-- What a query finds.
+use Prim.Native.Nat.{ℕ}
+use lib.Dec.{ltb}
+use Rattle.triple.specs.declared.refusal.Refusal.the-variants as Is
+use Rattle.triple.specs.Refusals.{Told, told, refuse, _>>=_}
+use Rattle.curve.specs.Points.{pointOf}
+use Rattle.lsystem.specs.Cells.{cellOf, positionOf}
+use Rattle.query.specs.declared.Query.{Query}
+use Rattle.query.specs.declared.Found.{Found}
+
+unfoldable pub answerOf : Query → Told Found
+answerOf (Query.Position o r s) = cellOf o r s >>= λ c. told (Found.Cell c)
+answerOf (Query.Cell o r t) = positionOf o r t >>= λ p. told (Found.Position p)
+answerOf (Query.Point o r i j) =
+    refuse (ltb 30 r) Is.Resolution
+    (refuse (ltb 5 o) Is.Orientation
+    (pointOf r i j >>= λ t. positionOf o r t >>= λ p. told (Found.Point t p)))

@@ -1,0 +1,20 @@
+// Answers for queries: a line of bytes read into one, what it finds, and that printed as a line.
+// What is found is `lsystem`'s and `curve`'s; the lines of an input and the output are the program
+// `wedge`'s.
+use lsystem::Named;
+use lsystem::Position;
+use triple::Triple;
+
+// Each names an orientation and a resolution, and then a position, a triple or a point of two f64.
+pub enum Query {
+    Position(u8, u8, u64),
+    Cell(u8, u8, Triple),
+    Point(u8, u8, f64, f64),
+}
+
+// A position's cell; a triple's position; a point's triple and its position.
+pub enum Found {
+    Cell(Named),
+    Position(Position),
+    Point(Triple, Position),
+}

@@ -1,0 +1,4 @@
+pub mod Descents
+pub mod Entries
+pub mod Follow
+pub mod Drawing

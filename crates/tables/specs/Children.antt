@@ -1,0 +1,54 @@
+-- A token's four children: their tokens, flips and offsets; and its leaves.
+use mathlib.Core.Bool.{Bool, false}
+use mathlib.Core.List.{List, [], _∷_}
+use Prim.Native.Nat.{ℕ, zero, suc, _+_, _%_}
+use lib.Dec.{eqb}
+use lib.ListN.{getD}
+use Rattle.turtle.specs.declared.AB.{AB}
+use Rattle.turtle.specs.declared.walk.Cell.{Cell}
+use Rattle.turtle.specs.declared.letter.Flavor.{Flavor}
+use Rattle.turtle.specs.Plane.{origin, _⊕_, signed, facing}
+use Rattle.turtle.specs.Walk.{Sym, left, right, letter, turtle, cells}
+use Rattle.grammar.specs.Words.{wordOf}
+use Rattle.grammar.specs.Texts.{Line}
+use Rattle.grammar.specs.Curves.{rules, strokes, net, letterOf, childrenOf}
+
+-- a child is met at heading 0, or flipped: at heading 3
+pub record Child : Type 0 where
+  pub token : ℕ
+  pub flip : Bool
+
+unfoldable pub met : ℕ → List (Sym ℕ) → List Child
+met h [] = []
+met h (left ∷ w) = met ((h + 1) % 6) w
+met h (right ∷ w) = met ((h + 5) % 6) w
+met h (letter m ∷ w) = record { token = m; flip = eqb h 3 } ∷ met h w
+
+-- those of a token, in the order of its rule, which is reversed for a lowercase one
+unfoldable pub children : List Line → ℕ → List Child
+children ls m = met 0 (childrenOf ls (wordOf (rules ls) (letterOf ls m)))
+
+abbrev pub noChild : Child
+noChild = record { token = 0; flip = false }
+
+abbrev pub child : List Line → ℕ → ℕ → Child
+child ls m d = getD (children ls m) d noChild
+
+-- where child d starts: the nets of those before it after r passes, opposite where flipped
+unfoldable pub offsetAfter : List Line → ℕ → List Child → ℕ → AB
+offsetAfter ls r cs zero = origin
+offsetAfter ls r [] (suc d) = origin
+offsetAfter ls r (c ∷ cs) (suc d) = signed (c .flip) (net ls r (letterOf ls (c .token))) ⊕ offsetAfter ls r cs d
+
+unfoldable pub offset : List Line → ℕ → ℕ → AB
+offset ls m d = offsetAfter ls 1 (children ls m) d
+
+-- the four cells of a token's drawing with one pass, walked from the origin at heading 0 or 3
+unfoldable pub leaves : List Line → ℕ → Bool → List Cell
+leaves ls m f = cells (strokes ls 1 (letterOf ls m)) (turtle origin (facing f))
+
+abbrev pub noCell : Cell
+noCell = record { sum = origin; flavor = Flavor.None }
+
+abbrev pub leaf : List Line → ℕ → Bool → ℕ → Cell
+leaf ls m f d = getD (leaves ls m f) d noCell

@@ -1,0 +1,6 @@
+pub mod Plane
+pub mod Letters
+pub mod Walk
+pub mod Corners
+pub mod Answers
+pub mod Sizes
