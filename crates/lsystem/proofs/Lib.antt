@@ -1,1 +1,3 @@
+pub mod A5Reads
+pub mod DescentLaws
 pub mod Examples

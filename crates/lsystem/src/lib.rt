@@ -3,6 +3,9 @@
 // grammar's drawing is `grammar`'s, the compiler and what its tables give `tables`'s, points `curve`'s.
 use triple::Triple;
 
+pub mod a5;
+pub mod descent;
+
 // A cell as a position names it.
 pub struct Named {
     pub triple: Triple,

@@ -4,3 +4,6 @@ pub mod SymbolLaws
 pub mod LetterLaws
 pub mod WalkLaws
 pub mod WalkDetermined
+pub mod CornerLaws
+pub mod CornerDetermined
+pub mod ScaleLaws

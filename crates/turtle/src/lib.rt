@@ -15,7 +15,8 @@ pub struct AB {
 }
 
 impl AB {
-    // No cell in bounds at any resolution has a corner sum of a larger size.
+    // The largest size of a pair that is taken. Every cell in bounds has a corner sum within it; a
+    // triple near the ends of i32 need not.
     pub const LIMIT: i64 = 17179869184;
 
     pub fn new(a: i64, b: i64) -> Self
@@ -27,15 +28,17 @@ impl AB {
     pub fn is_far(self) -> bool
         ensures { λ b. ⌜ b ≡ far self ⌝ }
     {
-        if self.a > Self::LIMIT {
+        let a = self.a;
+        let b = self.b;
+        if a > Self::LIMIT {
             return true;
         }
-        if self.a < -Self::LIMIT {
+        if a < -Self::LIMIT {
             return true;
         }
-        if self.b > Self::LIMIT {
+        if b > Self::LIMIT {
             return true;
         }
-        self.b < -Self::LIMIT
+        b < -Self::LIMIT
     }
 }

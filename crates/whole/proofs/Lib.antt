@@ -3,3 +3,7 @@ pub mod Parts
 pub mod View
 pub mod TestLaws
 pub mod Lists
+pub mod Claims
+pub mod Powers
+pub mod Arms
+pub mod Ring

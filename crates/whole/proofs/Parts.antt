@@ -230,3 +230,9 @@ prod-dn (negsuc a) (negsuc b) = omega arith
 
 -- what `omega` is handed to read and prove orders and equations of integers that are variables and literals, under `unfolding up dn`. Of a sum that stands in one, hand it `add-parts`
 pub ruleset orders = (parts-le, parts-lt, parts-eq, le-parts, lt-parts, eq-parts)
+
+-- the size is the sum of the parts
+pub abs-parts : (x : ℤ) → natAbs x ≡ up x + dn x
+unfolding up dn
+abs-parts (pos a) = omega arith
+abs-parts (negsuc a) = omega arith

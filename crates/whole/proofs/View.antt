@@ -16,7 +16,7 @@ use mir.Syntax.{Width, w32, w64}
 use mir.Val.{SFits, Fits, bits, hbits, toZ, ofZ}
 use mir.ValLaws.{toZ-ofZ, ofZ-toZ}
 use Rattle.whole.proofs.Bools.{both-left, both-right}
-use Rattle.whole.proofs.Parts.{up, dn, up-pos, dn-pos, up-negsuc, dn-negsuc, add-parts, sum-le, neg-up, neg-dn, mul-up, mul-dn, negsuc-mul, prod-up, prod-dn, quot-up, quot-dn, shr-up, shr-dn, rem-up, rem-dn, up-dn, eq-parts, le-parts, lt-parts, parts-le, parts-lt, parts-eq, mag-parts, parts-mag, leZ-no}
+use Rattle.whole.proofs.Parts.{up, dn, up-pos, dn-pos, up-negsuc, dn-negsuc, add-parts, sum-le, neg-up, neg-dn, mul-up, mul-dn, abs-parts, negsuc-mul, prod-up, prod-dn, quot-up, quot-dn, shr-up, shr-dn, rem-up, rem-dn, up-dn, eq-parts, le-parts, lt-parts, parts-le, parts-lt, parts-eq, mag-parts, parts-mag, leZ-no}
 
 -- what is read back from the bits of z
 abbrev pub rd : Width → ℤ → ℤ
@@ -57,6 +57,13 @@ of-is x lo hi a b = omega arith
 
 abbrev pub v-of : (x : ℤ) (lo hi : ℕ) → up x ≤ hi → dn x ≤ lo → View x
 v-of x lo hi a b = record { ok = true; p = up x; n = dn x; top = hi; bot = lo; is = λ t. of-is x lo hi a b }
+
+-- a number of size at most n
+pub abs-is : (x : ℤ) (n : ℕ) → natAbs x ≤ n → (up x + dn x ≡ up x + dn x) × (up x ≤ n) × (dn x ≤ n)
+abs-is x n h = omega (arith, abs-parts x)
+
+abbrev pub v-abs : (x : ℤ) (n : ℕ) → natAbs x ≤ n → View x
+v-abs x n h = record { ok = true; p = up x; n = dn x; top = n; bot = n; is = λ t. abs-is x n h }
 
 pub pos-is : (k : ℕ) → (up (pos k) + 0 ≡ k + dn (pos k)) × (up (pos k) ≤ k) × (dn (pos k) ≤ 0)
 pos-is k = omega (arith, up-pos k, dn-pos k)
@@ -233,6 +240,10 @@ in-is {w} {z} f v t = subst (λ (y : ℤ). (up y + v .n ≡ v .p + dn y) × (up 
 
 abbrev pub v-in : {w : Width} {z : ℤ} → SFits w z → View z → View (toZ w (ofZ w z))
 v-in {w} f v = record { ok = v .ok; p = v .p; n = v .n; top = 2 ^ hbits w - 1; bot = 2 ^ hbits w; is = in-is f v }
+
+-- a result as a local or a field has it, where what it equals fits
+pub kept : (w : Width) {z y : ℤ} → z ≡ y → (v : View y) → T (_&&_ (v .ok) (inside w (v .top) (v .bot))) → toZ w (ofZ w z) ≡ y
+kept w {z} {y} e v t = ap (λ (x : ℤ). toZ w (ofZ w x)) e ∙ toZ-ofZ w y (fits v t)
 
 pub ruleset view = (v-pos, v-negsuc, v-add, v-neg, v-mul, v-mul-r, v-mul-neg, v-mul-neg-r, v-quot, v-rem, v-shr, v-bits, tt)
 

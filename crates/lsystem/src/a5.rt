@@ -1,0 +1,165 @@
+// A5's table as numbers of the code: a word for each state, which a `match` turns into one load.
+// What the words hold is read in `step`, `leaf` and `classify`.
+ghost use mathlib.Core.Path.{_≡_};
+ghost use Prim.Native.Nat.{_≤_, _<_, _%_};
+ghost use lib.IntN.{pos};
+ghost use Rattle.tables.specs.Descent.{childAt, offsetAt, sumAt, flavorAt};
+ghost use Rattle.lsystem.specs.A5Table.{a5Table};
+ghost use Rattle.lsystem.specs.A5Words.{stepWord, leafWord, classWord, spread};
+
+// Four children of 13 bits: state in 5, then offset a and offset b, each (offset + 16) / 4, in 4.
+fn step_word(state: u64) -> u64
+    ensures { λ w. ⌜ w ≡ stepWord state ⌝ }
+{
+    match state {
+        0 => 0x2811300d94888,
+        1 => 0x601b105496889,
+        2 => 0x820392d912882,
+        3 => 0x608b28910883,
+        4 => 0x2889b9cd9a888,
+        5 => 0x6082899498889,
+        6 => 0x4281214d14898,
+        7 => 0x468b211516899,
+        8 => 0x4819408dac888,
+        9 => 0x401300d4ae889,
+        10 => 0x4489314d94888,
+        11 => 0x4483111496889,
+        12 => 0x525316191e890,
+        13 => 0x365936491c891,
+        14 => 0x56b336191c890,
+        15 => 0x32b916491e891,
+        16 => 0x6482b5d1b288e,
+        17 => 0x24899590b088f,
+        18 => 0x16b0aec92a883,
+        19 => 0x72bb9e9928882,
+        20 => 0x7254161926882,
+        21 => 0x1658364924883,
+        22 => 0x36b2220920891,
+        23 => 0x52ba225922890,
+        24 => 0x32b2160926883,
+        25 => 0x56ba365924882,
+        26 => 0x2211204d14898,
+        27 => 0x661b201516899,
+        _ => 0,
+    }
+}
+
+// Four leaves of 10 bits: sum a and sum b, each (sum + 28) / 4, in 4, then the flavor in 2.
+fn leaf_word(state: u64) -> u64
+    ensures { λ w. ⌜ w ≡ leafWord state ⌝ }
+{
+    match state {
+        0 => 0x9b23c56c69,
+        1 => 0xe0bb224d85,
+        2 => 0xb18c36d696,
+        3 => 0xca12b0e758,
+        4 => 0x8f26c56c69,
+        5 => 0xecb8224d85,
+        6 => 0xe175556066,
+        7 => 0x9a69925988,
+        8 => 0xd7a6c56c69,
+        9 => 0xa438224d85,
+        10 => 0x99b5856c69,
+        11 => 0xe229624d85,
+        12 => 0x61493a5b88,
+        13 => 0x1a55bd6266,
+        14 => 0x62c99ee388,
+        15 => 0x18d558da66,
+        16 => 0xee09962f88,
+        17 => 0x8d95518e66,
+        18 => 0x4ac39ca358,
+        19 => 0x30db5b1a96,
+        20 => 0x6d4c3b1a96,
+        21 => 0xe52bca358,
+        22 => 0x56c69d6266,
+        23 => 0x24d85a5b88,
+        24 => 0x5546399b58,
+        25 => 0x2658be2296,
+        26 => 0x98f5556066,
+        27 => 0xe2e9925988,
+        _ => 0,
+    }
+}
+
+// Three separators of 9 bits: (x + 24) / 12, (y + 24) / 12, (c + 1152) / 288, in 3 each; eight choices of 2 bits.
+fn class_word(state: u64) -> u64
+    ensures { λ w. ⌜ w ≡ classWord state ⌝ }
+{
+    match state {
+        0 => 0x766e20984db,
+        1 => 0x766e289c4c9,
+        2 => 0x6462189b6a2,
+        3 => 0x64621099282,
+        4 => 0x5c4c20984db,
+        5 => 0x5c4c289c4c9,
+        6 => 0x4dcc48984c9,
+        7 => 0x4dcc409c4db,
+        8 => 0x6ce430828db,
+        9 => 0x6ce438820c9,
+        10 => 0x6ce430a2109,
+        11 => 0x6ce438a291b,
+        12 => 0x624250a0110,
+        13 => 0x624258a4914,
+        14 => 0x624250b04a4,
+        15 => 0x624258b4480,
+        16 => 0x6242289c4a4,
+        17 => 0x62422098480,
+        18 => 0x624210b4882,
+        19 => 0x624218b00a2,
+        20 => 0x624270b00a2,
+        21 => 0x624278b4882,
+        22 => 0x624230a4914,
+        23 => 0x624238a0110,
+        24 => 0x62423090110,
+        25 => 0x62423894914,
+        26 => 0x6ce430920c9,
+        27 => 0x6ce438928db,
+        _ => 0,
+    }
+}
+
+// A child's state, and where it starts in its parent's frame.
+pub struct Step {
+    pub state: u64,
+    pub a: i64,
+    pub b: i64,
+}
+
+// A cell of the last level: its corner sum in its state's frame, and its flavor.
+pub struct Leaf {
+    pub a: i64,
+    pub b: i64,
+    pub flavor: u8,
+}
+
+// The low four bits of w count fours from `least` below 0 up.
+fn spread(w: u64, least: u64) -> i64
+    requires { ⌜ least ≤ 28 ⌝ }
+    ensures { λ z. ⌜ z ≡ spread least (w % 16) ⌝ }
+{
+    (4 * (w % 16)) as i64 - least as i64
+}
+
+pub fn step_of(state: u64, digit: u64) -> Step
+    requires { ⌜ (state < 28) × (digit < 4) ⌝ }
+    ensures { λ t. ⌜ (pos (t .state) ≡ childAt a5Table state digit) × ((t .a ≡ offsetAt a5Table state digit .a) × (t .b ≡ offsetAt a5Table state digit .b)) ⌝ }
+{
+    let w = step_word(state) >> (13 * digit);
+    Step {
+        state: w % 32,
+        a: spread(w / 32, 16),
+        b: spread(w / 512, 16),
+    }
+}
+
+pub fn leaf_of(state: u64, digit: u64) -> Leaf
+    requires { ⌜ (state < 28) × (digit < 4) ⌝ }
+    ensures { λ l. ⌜ (l .a ≡ sumAt a5Table state digit .a) × ((l .b ≡ sumAt a5Table state digit .b) × (pos (l .flavor) ≡ flavorAt a5Table state digit)) ⌝ }
+{
+    let w = leaf_word(state) >> (10 * digit);
+    Leaf {
+        a: spread(w, 28),
+        b: spread(w / 16, 28),
+        flavor: (w / 256 % 4) as u8,
+    }
+}
