@@ -7,3 +7,7 @@ pub mod MirrorLaws
 pub mod TokenLaws
 pub mod PassLaws
 pub mod Meaning
+pub mod WordLaws
+pub mod BookLaws
+pub mod ExpandLaws
+pub mod WordDetermined

@@ -7,3 +7,4 @@ pub mod Claims
 pub mod Powers
 pub mod Arms
 pub mod Ring
+pub mod Fill
