@@ -1,1 +1,5 @@
 pub mod Examples
+pub mod NearLaws
+pub mod FloorLaws
+pub mod PointLaws
+pub mod Determined

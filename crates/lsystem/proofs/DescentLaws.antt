@@ -14,7 +14,7 @@ use mir.Val.{toZ, ofZ}
 use Rattle.whole.proofs.View.{view, v-abs, v-add, v-mul, v-var, eq-by, kept}
 use Rattle.whole.proofs.Claims.{Claim, lt, le, Hold, below, all, each}
 use Rattle.turtle.specs.declared.AB.{AB}
-use Rattle.turtle.specs.Plane.{ab, _⊕_, thrice, doubled}
+use Rattle.turtle.specs.Plane.{ab, origin, _⊕_, thrice, doubled}
 use Rattle.turtle.proofs.ScaleLaws.{doubled-⊕}
 use Rattle.tables.specs.Descent.{entry, childAt, offsetAt, sumAt, flavorAt, Leaf, follow}
 use Rattle.lsystem.specs.declared.descent.Place.{Place}
@@ -149,3 +149,14 @@ follow-descended (suc n) s p =
     ap (λ v. follow a5Table n v (natAbs (childAt a5Table (p .state) d)) s) e
     ∙ ap (λ k. follow a5Table n (doubled n (spotOf (down p d))) k s) (sym (down-state p d))
     ∙ follow-descended n s (down p d)
+
+pub origin-doubled : (n : ℕ) → doubled n (ab (pos 0) (pos 0)) ≡ origin
+unfolding doubled origin _⊕_
+origin-doubled zero = refl
+origin-doubled (suc n) = rw (origin-doubled n)
+
+-- a descent ends near
+pub near-descended : (n s : ℕ) (p : Place) → Near n p → Near 0 (descended n s p)
+unfolding descended
+near-descended zero s p h = h
+near-descended (suc n) s p h = near-descended n s _ (near-down n p _ h (omega arith))

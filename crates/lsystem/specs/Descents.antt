@@ -1,7 +1,14 @@
 -- How the code goes down A5's table: a place in units of its own level, which doubles at each step.
+use mathlib.Core.Bool.{Bool, cond}
 use Prim.Native.Nat.{ℕ, zero, suc, _/_, _%_, _^_}
-use lib.IntN.{ℤ, pos, _+ℤ_, _*ℤ_, natAbs}
+use lib.Dec.{leb}
+use lib.IntN.{ℤ, pos, _+ℤ_, _-ℤ_, _*ℤ_, natAbs}
+use Rattle.triple.specs.declared.Triple.{Triple}
+use Rattle.triple.specs.Refusals.{Told, told, _>>=_}
+use Rattle.turtle.specs.declared.AB.{AB}
+use Rattle.turtle.specs.Corners.{tripleOf}
 use Rattle.tables.specs.Descent.{childAt, offsetAt}
+use Rattle.lsystem.specs.declared.Named.{Named}
 use Rattle.lsystem.specs.declared.descent.Place.{Place}
 use Rattle.lsystem.specs.A5Table.{a5Table}
 
@@ -19,3 +26,17 @@ descended (suc n) s p = descended n s (down p (s / 4 ^ suc n % 4))
 
 abbrev pub atOrigin : ℕ → Place
 atOrigin k = record { a = pos 0; b = pos 0; state = k }
+
+-- the state of an orientation's axiom: twice the token of A, C or B
+unfoldable pub axiomState : ℕ → ℕ
+axiomState o = cond (leb o 1) 0 (cond (leb o 3) 4 2)
+
+-- a corner sum's triple, moved or not, with a flavor
+unfoldable pub movedBy : Bool → ℕ → Triple → Triple
+movedBy moves r t =
+    cond moves (record { x = t .x -ℤ pos (2 ^ r); y = t .y +ℤ pos (2 ^ r); z = t .z }) t
+
+unfoldable pub namedBy : Bool → ℕ → AB → ℕ → Told Named
+namedBy moves r p f = do
+  t ← tripleOf p
+  told (record { triple = movedBy moves r t; flavor = f })

@@ -4,4 +4,6 @@ pub mod A5Words
 pub mod Cells
 pub mod Descents
 pub mod Reach
+pub mod Lookup
 pub mod Nodes
+pub mod Answers

@@ -4,6 +4,7 @@
 use triple::Triple;
 
 pub mod a5;
+pub mod cell;
 pub mod descent;
 
 // A cell as a position names it.

@@ -1,10 +1,12 @@
 pub mod Bools
 pub mod Parts
 pub mod View
-pub mod TestLaws
-pub mod Lists
-pub mod Claims
-pub mod Powers
-pub mod Arms
 pub mod Ring
+pub mod TestLaws
+pub mod Claims
+pub mod Arms
+pub mod Powers
+pub mod Digits
+pub mod Fractions
+pub mod Lists
 pub mod Fill

@@ -1,0 +1,80 @@
+-- What is written is read back: a code's bytes have the code's bits, and the reader cuts them where the writer joined them.
+-- Assumes nothing.
+use mathlib.Core.Path.{_≡_, refl, sym, ap, _∙_}
+use mathlib.Core.Bool.{Bool, true, false}
+use mathlib.Core.List.{List, _++_, append-assoc}
+use Prim.Native.Nat.{ℕ, _+_, _-_, _*_, _%_, _^_, _≤_, _<_}
+use native.Mathlib.Nat.{mod-eq-of-lt}
+use native.Mathlib.Omega.{arith}
+use lib.Dec.{ltb, leb}
+use lib.ListN.{length, take, drop, replicate, length-append}
+use lib.Seq.{drop-at, drop-drop}
+use borrow.Author.Tests.{le-ltb, ne-eqb, ltb-false, leb-false}
+use Rattle.whole.proofs.Powers.{four-by-shift}
+use Rattle.triple.specs.declared.refusal.Refusal.{Refusal}
+use Rattle.triple.specs.declared.refusal.Refusal.the-variants as Is
+use Rattle.triple.specs.Refusals.{Told, told, refuse}
+use Rattle.code.specs.Codes.{bitsOf, valueOf, allBits, codeLength, codeBits, codeBytes, written, writeOf, afterWrite, readOf}
+use Rattle.code.proofs.BitLaws.{length-bits, value-front}
+use Rattle.code.proofs.ByteLaws.{all-bits-append, bits-of-byte, bits-of-bytes}
+use Rattle.code.proofs.CodeLaws.{code-bits, code-bytes, length-code, positionBytes, spareBits}
+
+bits-of-code : (o r s : ℕ) → allBits (codeBytes o r s) ≡ codeBits o r s
+bits-of-code o r s =
+    rw (code-bytes o r s, code-bits o r s) (bits-of-byte (o * 32 + r % 32) _ (bits-of-bytes (positionBytes r) (s * 2 ^ spareBits r)))
+
+-- ---- what the reader takes out of a code, whatever follows it
+module _ (o r s : ℕ) (rest : List ℕ) where
+  abbrev bits : List ℕ
+  bits = allBits (codeBytes o r s ++ rest)
+
+  abbrev behind : List ℕ
+  behind = replicate (8 * codeLength r - (8 + 2 * r)) 0 ++ allBits rest
+
+  -- the code's bits, as the writer laid them
+  laid : bits ≡ bitsOf 3 o ++ (bitsOf 5 r ++ (bitsOf (2 * r) s ++ behind))
+  unfolding codeBits
+  laid = rw (all-bits-append (codeBytes o r s) rest, bits-of-code o r s) (simp append-assoc)
+
+  dropped : drop 3 bits ≡ bitsOf 5 r ++ (bitsOf (2 * r) s ++ behind)
+  dropped = rw laid (drop-at (bitsOf 3 o) _ 3 (length-bits 3 o))
+
+  orientation-back : o ≤ 5 → valueOf (take 3 bits) ≡ o
+  orientation-back h = rw laid (value-front 3 o _ ∙ omega arith)
+
+  resolution-back : r ≤ 30 → valueOf (take 5 (drop 3 bits)) ≡ r
+  resolution-back h = rw dropped (value-front 5 r _ ∙ omega arith)
+
+  position-back : s < 4 ^ r → valueOf (take (2 * r) (drop 8 bits)) ≡ s
+  position-back h =
+      let e : drop 8 bits ≡ bitsOf (2 * r) s ++ behind =
+      sym (drop-drop 5 3 bits) ∙ ap (drop 5) dropped ∙ drop-at (bitsOf 5 r) _ 5 (length-bits 5 r) in
+      rw e (value-front (2 * r) s behind ∙ mod-eq-of-lt (rw (four-by-shift r) h))
+
+  long : (length (codeBytes o r s ++ rest) ≡ 0 → ⊥) × (codeLength r ≤ length (codeBytes o r s ++ rest))
+  unfolding codeLength
+  long = let e = length-append (codeBytes o r s) rest ∙ ap (λ (n : ℕ). n + length rest) (length-code o r s) in (λ z. omega (arith, e, z), omega arith)
+
+  pub read-back : o ≤ 5 → r ≤ 30 → s < 4 ^ r
+      → readOf (codeBytes o r s ++ rest) ≡ told (record { orientation = o; resolution = r; s = s; used = codeLength r })
+  unfolding readOf
+  read-back ho hr hs =
+      rw (orientation-back ho, resolution-back hr, position-back hs) (simp (ne-eqb _ _ (long .0), le-ltb 30 r hr, le-ltb 5 o ho, le-ltb _ _ (long .1)))
+
+-- ---- over a buffer: what a writer has answered is what a reader finds
+passed : {A : Type 0} (test : Bool) (e : Refusal) (t : Told A) (a : A) → refuse test e t ≡ told a → (test ≡ false) × (t ≡ told a)
+passed true e t a p = let z : _≡_ {A = ℕ} 0 1 = cc in let none : ⊥ = omega arith in absurd none
+passed false e t a p = (refl, p)
+
+pub written-read-back : (o r s : ℕ) (buffer : List ℕ) (n : ℕ) → writeOf o r s buffer ≡ told n
+    → readOf (afterWrite o r s buffer) ≡ told (record { orientation = o; resolution = r; s = s; used = n })
+unfolding writeOf afterWrite
+written-read-back o r s buffer n p =
+    let shallow = passed (ltb 30 r) Is.Resolution _ n p in
+    let oriented = passed (ltb 5 o) Is.Orientation _ n (shallow .1) in
+    let named = passed (leb (4 ^ r) s) Is.Position _ n (oriented .1) in
+    let room = passed (ltb (length buffer) (codeLength r)) Is.Room (told (codeLength r)) n (named .1) in
+    let count : codeLength r ≡ n = cc (room .1) in
+    ap (λ (a : Told ℕ). readOf (written (codeBytes o r s) buffer a)) p
+    ∙ read-back o r s (drop n buffer) (ltb-false 5 o (oriented .0)) (ltb-false 30 r (shallow .0)) (leb-false (4 ^ r) s (named .0))
+    ∙ ap (λ (k : ℕ). told (record { orientation = o; resolution = r; s = s; used = k })) count

@@ -1,0 +1,19 @@
+-- The contract on points allows one result alone. What an answer says has a left inverse: so two answers that say the same are the same.
+-- Assumes nothing.
+use mathlib.Core.Path.{_≡_, refl, ap}
+use Prim.Native.Nat.{ℕ}
+use lib.Ieee.{Float}
+use Rattle.triple.proofs.Determined.{one-to-one, determined, numbered, answerOf}
+use Rattle.curve.specs.declared.PointAnswer.{PointAnswer}
+use Rattle.curve.specs.Points.{pointOf}
+use Rattle.curve.specs.Answers.{saidPoint}
+
+point-back : (a : PointAnswer) → answerOf PointAnswer.At PointAnswer.Refused (saidPoint a) ≡ a
+point-back (PointAnswer.At t) = refl
+point-back (PointAnswer.Refused e) = ap PointAnswer.Refused (numbered e)
+
+pub said-point-one-to-one : (a b : PointAnswer) → saidPoint a ≡ saidPoint b → a ≡ b
+said-point-one-to-one = one-to-one saidPoint (answerOf PointAnswer.At PointAnswer.Refused) point-back
+
+pub point-determined : (r : ℕ) (i j : Float) (a b : PointAnswer) → saidPoint a ≡ pointOf r i j → saidPoint b ≡ pointOf r i j → a ≡ b
+point-determined r i j = determined saidPoint said-point-one-to-one

@@ -1,0 +1,217 @@
+-- What the definitions of a point's triple give in each case, from what the code has in hand in that case; and that a point's triple is in bounds.
+-- Assumes nothing.
+use mathlib.Core.Path.{_≡_, refl, sym, ap, _∙_}
+use mathlib.Core.Bool.{Bool, true, false, not, _&&_, cond, and-false, true≢false}
+use Prim.Native.Nat.{ℕ, _+_, _-_, _^_, _≤_, _<_}
+use native.Mathlib.Omega.{arith}
+use native.Mathlib.Decide.{decLt}
+use borrow.Author.Tests.{lt-ltb, le-ltb, le-leb, lt-leb, ltb-true, not-true, not-false}
+use lib.Dec.{T, ltb}
+use lib.IntN.{ℤ, pos, negsuc, negℤ, natAbs, _-ℤ_}
+use lib.Signed.{ltZ, nonNeg}
+use lib.Ieee.{Float, binary64, le, add, sub, ofInt}
+use mir.Syntax.{w32, w64}
+use mir.Val.{SFits, Fits, toZ}
+use mir.ValLaws.{toZ-ofZ}
+use Rattle.whole.proofs.TestLaws.{true-pass}
+use Rattle.whole.proofs.View.{View, rd, v-pos, v-upto, v-neg, v-add, v-bits, v-unsigned, v-abs, eq-by, le-by, fits, kept}
+use Rattle.triple.specs.declared.Triple.{Triple}
+use Rattle.triple.specs.declared.refusal.Refusal.the-variants as Is
+use Rattle.triple.specs.Refusals.{Told, told, refused, refuse, numberOf}
+use Rattle.triple.specs.Triples.{bounds, inBounds}
+use Rattle.triple.proofs.TripleLaws.{row-most}
+use Rattle.curve.specs.Points.{near, floor, fraction, one, parity, clamped, cornered, settled, pointOf}
+use Rattle.curve.proofs.FloorLaws.{floor-size}
+
+-- ---- a floor, as the code clamps it
+module _ (z : ℤ) (f : SFits w64 z) where
+  test-read : {b : Bool} → ltZ (rd w64 z) (pos 0) ≡ b → ltZ z (pos 0) ≡ b
+  test-read h = ap (λ (y : ℤ). ltZ y (pos 0)) (sym (toZ-ofZ w64 z f)) ∙ h
+
+  pub clamped-below : ltZ (rd w64 z) (pos 0) ≡ true → pos 0 ≡ pos (clamped z)
+  clamped-below h = go z (test-read h)
+    where
+      go : (y : ℤ) → ltZ y (pos 0) ≡ true → pos 0 ≡ pos (clamped y)
+      go (pos n) h = let l : n < 0 = ltb-true n 0 h in absurd (omega arith)
+      go (negsuc n) h = refl
+
+  pub clamped-same : ltZ (rd w64 z) (pos 0) ≡ false → rd w64 z ≡ pos (clamped z)
+  clamped-same h = toZ-ofZ w64 z f ∙ go z (test-read h)
+    where
+      go : (y : ℤ) → ltZ y (pos 0) ≡ false → y ≡ pos (clamped y)
+      go (pos n) h = refl
+      go (negsuc n) h = absurd (true≢false h)
+
+pub ruleset clamping = (clamped-below, clamped-same)
+
+-- what the code has after it, of a coordinate x with the floor y
+clamped-size : (y : ℤ) (k : ℕ) → natAbs y ≤ k → clamped y ≤ k
+clamped-size (pos n) k h = h
+clamped-size (negsuc n) k h = omega arith
+
+module _ (x : Float) (t : near x ≡ true) {y : ℤ} (e : y ≡ floor x) where
+  floor-read : rd w64 y ≡ floor x
+  floor-read = kept w64 e (v-abs (floor x) (2 ^ 31) (floor-size x t)) tt
+
+  pub floor-small : natAbs (rd w64 y) ≤ 2 ^ 31
+  floor-small = rw floor-read (floor-size x t)
+
+  fraction-is : {f : Float} → f ≡ sub binary64 x (ofInt binary64 (rd w64 y)) → f ≡ fraction x
+  unfolding fraction
+  fraction-is a = a ∙ ap (λ (w : ℤ). sub binary64 x (ofInt binary64 w)) floor-read
+
+module _ (x : Float) (t : near x ≡ true) {y z : ℤ} (e : y ≡ floor x) (g : z ≡ pos (clamped (rd w64 y))) where
+  clamped-most : clamped (floor x) ≤ 2 ^ 31
+  clamped-most = clamped-size (floor x) (2 ^ 31) (floor-size x t)
+
+  clamped-read : rd w64 z ≡ pos (clamped (floor x))
+  clamped-read = kept w64 (g ∙ ap (λ (w : ℤ). pos (clamped w)) (floor-read x t e)) (v-upto (clamped (floor x)) (2 ^ 31) clamped-most) tt
+
+  pub clamped-not-negative : T (nonNeg (rd w64 z))
+  clamped-not-negative = rw clamped-read tt
+
+  pub clamped-fits : Fits w64 (natAbs (rd w64 z))
+  clamped-fits = rw clamped-read (record { fits = omega (arith, clamped-most) })
+
+  pub clamped-small : natAbs (rd w64 z) ≤ 2 ^ 31
+  clamped-small = rw clamped-read clamped-most
+
+  clamped-is : natAbs (rd w64 z) ≡ clamped (floor x)
+  clamped-is = ap natAbs clamped-read
+
+-- ---- the parity
+module _ (f g : Float) {p : ℕ} (e : p ≡ cond (le one (add binary64 f g)) 1 0) where
+  pub parity-small : p ≤ 1
+  parity-small = go (le one (add binary64 f g)) e
+    where
+      go : (b : Bool) → p ≡ cond b 1 0 → p ≤ 1
+      go true e = omega arith
+      go false e = omega arith
+
+  parity-is : (i j : Float) → f ≡ fraction i → g ≡ fraction j → p ≡ parity i j
+  unfolding parity
+  parity-is i j a b = e ∙ λ k. cond (le one (add binary64 (a k) (b k))) 1 0
+
+-- ---- the triple of m, n and the parity
+abbrev v-minus : (k : ℕ) → k ≤ 2 ^ 30 → View (pos 0 -ℤ toZ w32 k)
+v-minus k h = v-add (v-pos 0) (v-neg (v-unsigned w32 k (2 ^ 30) h))
+
+pub minus-m-fits : (m n p : ℕ) → m + n + p ≤ 2 ^ 30 → SFits w32 (pos 0 -ℤ toZ w32 m)
+minus-m-fits m n p h = fits (v-minus m (omega arith)) tt
+
+pub minus-n-fits : (m n p : ℕ) → m + n + p ≤ 2 ^ 30 → SFits w32 (pos 0 -ℤ toZ w32 n)
+minus-n-fits m n p h = fits (v-minus n (omega arith)) tt
+
+minus-is : (k : ℕ) → k ≤ 2 ^ 30 → rd w32 (pos 0 -ℤ toZ w32 k) ≡ negℤ (pos k)
+minus-is k h = eq-by (v-bits w32 (pos 0 -ℤ toZ w32 k) (v-minus k h)) (v-neg (v-pos k)) tt (omega arith)
+
+row-is : (k : ℕ) → k ≤ 2 ^ 30 → toZ w32 k ≡ pos k
+row-is k h = eq-by (v-unsigned w32 k (2 ^ 30) h) (v-pos k) tt (omega arith)
+
+pub cornered-is : (m n p : ℕ) → m + n + p ≤ 2 ^ 30 → {t : Triple} → t ≡ record { x = rd w32 (pos 0 -ℤ toZ w32 n); y = toZ w32 (m + n + p); z = rd w32 (pos 0 -ℤ toZ w32 m) } → t ≡ cornered m n p
+cornered-is m n p h e = e ∙ λ i. record { x = minus-is n (omega arith) i; y = row-is (m + n + p) h i; z = minus-is m (omega arith) i }
+
+pub ruleset corners = (minus-n-fits, minus-m-fits, cornered-is)
+
+-- ---- brought down to the last row
+module _ (m n p last : ℕ) where
+  pub settled-whole : m + n + p ≤ last → {t : Triple} → t ≡ cornered m n p → t ≡ settled last m n p
+  unfolding settled
+  settled-whole h e = simp (le-leb (m + n + p) last h) e
+
+  settled-over : last < m + n + p → {k l : ℕ} → k ≡ m - (m + n - last) → l ≡ n - (m + n - last - m) → {t : Triple} → t ≡ cornered k l 0 → t ≡ settled last m n p
+  unfolding settled
+  settled-over h a b e = simp (lt-leb (m + n + p) last h) (e ∙ λ i. cornered (a i) (b i) 0)
+
+  pub settled-even : last < m + n + p → m + n ≤ last → {t : Triple} → t ≡ cornered m n 0 → t ≡ settled last m n p
+  settled-even h k = settled-over h (omega arith) (omega arith)
+
+  pub settled-off-m : last < m + n + p → m + n - last ≤ m → {t : Triple} → t ≡ cornered (m - (m + n - last)) n 0 → t ≡ settled last m n p
+  settled-off-m h k = settled-over h refl (omega arith)
+
+  pub settled-off-n : last < m + n + p → m < m + n - last → {t : Triple} → t ≡ cornered 0 (n - (m + n - last - m)) 0 → t ≡ settled last m n p
+  settled-off-n h k = settled-over h (omega arith) refl
+
+pub ruleset settling = (settled-whole, settled-even, settled-off-m, settled-off-n)
+
+-- the whole rounding, from what each step gives
+pub rounded-is : (i j : Float) (last : ℕ) → near i ≡ true → near j ≡ true → {y z m n : ℤ} → y ≡ floor i → z ≡ floor j → m ≡ pos (clamped (rd w64 y)) → n ≡ pos (clamped (rd w64 z))
+    → (f g : Float) → f ≡ sub binary64 i (ofInt binary64 (rd w64 y)) → g ≡ sub binary64 j (ofInt binary64 (rd w64 z)) → {p : ℕ} → p ≡ cond (le one (add binary64 f g)) 1 0
+    → {t : Triple} → t ≡ settled last (natAbs (rd w64 m)) (natAbs (rd w64 n)) p → t ≡ settled last (clamped (floor i)) (clamped (floor j)) (parity i j)
+rounded-is i j last ni nj y z m n f g a b p e = e ∙ λ k. settled last (clamped-is i ni y m k) (clamped-is j nj z n k) (parity-is f g p i j (fraction-is i ni y a) (fraction-is j nj z b) k)
+
+pub ruleset rounding = (floor-small, clamped-not-negative, clamped-fits, clamped-small, parity-small, rounded-is)
+
+-- ---- the answers: refused, or told
+pub near-told : (x : Float) {b : Bool} → b ≡ near x → not b ≡ false → near x ≡ true
+near-told x {b} e n = sym e ∙ not-false b n
+
+not-near : (x : Float) {b : Bool} → b ≡ near x → not b ≡ true → near x ≡ false
+not-near x {b} e n = sym e ∙ not-true b n
+
+abbrev by-tests : Bool → Bool → Bool → Triple → Told Triple
+by-tests far a b t = refuse far Is.Resolution (refuse (not (a && b)) Is.Point (told t))
+
+module _ (r : ℕ) (i j : Float) where
+  abbrev found : Triple
+  found = settled (2 ^ r - 1) (clamped (floor i)) (clamped (floor j)) (parity i j)
+
+  pub point-far : 30 < r → refused (numberOf Is.Resolution) ≡ pointOf r i j
+  unfolding pointOf
+  point-far h = ap (λ (b : Bool). by-tests b (near i) (near j) found) (sym (lt-ltb 30 r h))
+
+  module _ (h : r ≤ 30) where
+    pub point-first : {b : Bool} → b ≡ near i → not b ≡ true → refused (numberOf Is.Point) ≡ pointOf r i j
+    unfolding pointOf
+    point-first e n = λ k. by-tests (sym (le-ltb 30 r h) k) (sym (not-near i e n) k) (near j) found
+
+    pub point-second : {b : Bool} → b ≡ near j → not b ≡ true → refused (numberOf Is.Point) ≡ pointOf r i j
+    unfolding pointOf
+    point-second e n = ap (λ (b : Bool). refuse (not b) Is.Point (told found)) (sym (and-false (near i))) ∙ λ k. by-tests (sym (le-ltb 30 r h) k) (near i) (sym (not-near j e n) k) found
+
+    pub point-told : {a b : Bool} → a ≡ near i → not a ≡ false → b ≡ near j → not b ≡ false → {l : ℕ} → l ≡ 2 ^ r - 1
+        → {t : Triple} → t ≡ settled l (clamped (floor i)) (clamped (floor j)) (parity i j) → told t ≡ pointOf r i j
+    unfolding pointOf
+    point-told ei ni ej nj l e =
+        ap told (e ∙ ap (λ (k : ℕ). settled k (clamped (floor i)) (clamped (floor j)) (parity i j)) l)
+        ∙ λ k. by-tests (sym (le-ltb 30 r h) k) (sym (near-told i ei ni) k) (sym (near-told j ej nj) k) found
+
+pub last-small : (r : ℕ) → r ≤ 30 → {l : ℕ} → l ≡ 2 ^ r - 1 → l ≤ 2 ^ 30
+last-small r h e = omega (arith, row-most r h)
+
+pub ruleset answers = (point-far, point-first, point-second, point-told)
+
+-- ---- always in bounds
+cornered-in-bounds : (r m n p : ℕ) → m + n + p ≤ 2 ^ r - 1 → p ≤ 1 → inBounds r (cornered m n p) ≡ true
+unfolding inBounds
+cornered-in-bounds r m n p h l =
+    let x = v-neg (v-pos n) in
+    let y = v-pos (m + n + p) in
+    let z = v-neg (v-pos m) in
+    let sum = v-add (v-add x y) z in
+    let sum-least = le-by (v-pos 0) sum tt (omega arith) in
+    let sum-most = le-by sum (v-pos 1) tt (omega arith) in
+    let x-most = le-by x (v-pos 0) tt (omega arith) in
+    let z-most = le-by z (v-pos 0) tt (omega arith) in
+    let y-least = le-by (v-pos 0) y tt (omega arith) in
+    let y-most = le-by y (v-pos (2 ^ r - 1)) tt (omega arith) in
+    let x-least = le-by (v-add sum (v-neg y)) x tt (omega arith) in
+    let z-least = le-by (v-add sum (v-neg y)) z tt (omega arith) in
+    sym (true-pass (bounds r (cornered m n p)) (sum-least, (sum-most, (x-most, (z-most, (y-least, (y-most, (x-least, (z-least, tt)))))))))
+
+settled-in-bounds : (r m n p : ℕ) → p ≤ 1 → inBounds r (settled (2 ^ r - 1) m n p) ≡ true
+settled-in-bounds r m n p l = elim (decLt (2 ^ r - 1) (m + n + p)) [
+  | yes h ↦ rw (← settled-over m n p (2 ^ r - 1) h refl refl refl) (cornered-in-bounds r (m - (m + n - (2 ^ r - 1))) (n - (m + n - (2 ^ r - 1) - m)) 0 (omega arith) (omega arith))
+  | no h ↦ rw (← settled-whole m n p (2 ^ r - 1) (omega arith) refl) (cornered-in-bounds r m n p (omega arith) l)
+]
+
+told-found : (far good : Bool) (s t : Triple) → refuse far Is.Resolution (refuse (not good) Is.Point (told s)) ≡ told t → s ≡ t
+told-found true good s t e = let z : _≡_ {A = ℕ} 0 1 = cc in absurd (omega arith)
+told-found false false s t e = let z : _≡_ {A = ℕ} 0 1 = cc in absurd (omega arith)
+told-found false true s t e = cc
+
+pub point-in-bounds : (r : ℕ) (i j : Float) (t : Triple) → pointOf r i j ≡ told t → inBounds r t ≡ true
+unfolding pointOf parity
+point-in-bounds r i j t e =
+    ap (inBounds r) (sym (told-found (ltb 30 r) (near i && near j) (found r i j) t e))
+    ∙ settled-in-bounds r (clamped (floor i)) (clamped (floor j)) (parity i j) (parity-small (fraction i) (fraction j) refl)
