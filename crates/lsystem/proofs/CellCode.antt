@@ -62,7 +62,7 @@ sizes : (k d : ℕ) → k < 28 → d < 4 → Hold (Sizes k d)
 sizes = each 28 4 Sizes sizes-all
 
 -- where the descent ends is near
-pub end-near : (k n s : ℕ) (p : Place) → k < 28 → n ≤ 29 → p ≡ descended n s (atOrigin k) → Near 0 p
+pub end-near : (k n s : ℕ) (p : Place) → k < 28 → n ≤ 30 → p ≡ descended n s (atOrigin k) → Near 0 p
 end-near k n s p h l e = subst (Near 0) (sym e) (near-descended n s (atOrigin k) (near-origin n k h l))
 
 near-size : (m : ℕ) → (m + 16) * 2 ^ 0 ≤ 2 ^ 34 → m ≤ 2 ^ 34

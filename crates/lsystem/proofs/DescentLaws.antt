@@ -61,9 +61,9 @@ near-zero k m h = N.le-trans (N.mul-le-mul-left (m + 16) (N.one-le-pow k 2 (omeg
 pub near-now : (k : ℕ) (p : Place) → Near k p → Near 0 p
 near-now k p n = record { state = n .state; a = near-zero k _ (n .a); b = near-zero k _ (n .b) }
 
-pub near-origin : (k state : ℕ) → state < 28 → k ≤ 29 → Near k (atOrigin state)
+pub near-origin : (k state : ℕ) → state < 28 → k ≤ 30 → Near k (atOrigin state)
 near-origin k state h l =
-    let p : 2 ^ k ≤ 2 ^ 29 = N.pow-le-pow-right (omega arith) l in
+    let p : 2 ^ k ≤ 2 ^ 30 = N.pow-le-pow-right (omega arith) l in
     record { state = h; a = omega (arith, p); b = omega (arith, p) }
 
 near-size : (m : ℕ) → (m + 16) * 2 ^ 0 ≤ 2 ^ 34 → m ≤ 2 ^ 34

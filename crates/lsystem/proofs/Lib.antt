@@ -1,5 +1,6 @@
 pub mod A5Compiled
 pub mod A5Reads
+pub mod A5Entries
 pub mod Footprints
 pub mod Spots
 pub mod FootprintChecks
@@ -16,4 +17,14 @@ pub mod CellLaws
 pub mod Numbering
 pub mod CellCode
 pub mod CellAnswers
+pub mod ClassifyLaws
+pub mod LookupCode
+pub mod PositionLaws
+pub mod NodePositions
+pub mod NodeLaws
+pub mod ChildLaws
+pub mod NodeWalk
+pub mod NodeBelow
+pub mod NodeMotifs
+pub mod Determined
 pub mod Examples

@@ -201,7 +201,7 @@ module _ (o r : ℕ) (h : o ≤ 5) (k : r ≤ 30) where
   unfolding cellOf
   cell-good s l = simp (le-ltb 30 r k, le-ltb 5 o h, lt-leb (4 ^ r) s l)
 
-  position-good : (t : Triple) → inBounds r t ≡ true → positionOf o r t ≡ seek o r t (4 ^ r) 0
+  pub position-good : (t : Triple) → inBounds r t ≡ true → positionOf o r t ≡ seek o r t (4 ^ r) 0
   unfolding positionOf
   position-good t b = simp (le-ltb 30 r k, le-ltb 5 o h, bounds-good r t b, b)
 

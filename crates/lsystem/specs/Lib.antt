@@ -1,9 +1,11 @@
 pub mod A5
 pub mod A5Table
 pub mod A5Words
-pub mod Cells
-pub mod Descents
-pub mod Reach
 pub mod Lookup
+pub mod Cells
 pub mod Nodes
 pub mod Answers
+pub mod NodeAnswers
+pub mod Descents
+pub mod Trails
+pub mod Reach

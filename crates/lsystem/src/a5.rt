@@ -1,11 +1,15 @@
 // A5's table as numbers of the code: a word for each state, which a `match` turns into one load.
 // What the words hold is read in `step`, `leaf` and `classify`.
 ghost use mathlib.Core.Path.{_≡_};
-ghost use Prim.Native.Nat.{_≤_, _<_, _%_};
-ghost use lib.IntN.{pos};
+ghost use Prim.Native.Nat.{_≤_, _<_, _*_, _/_, _%_, _^_};
+ghost use lib.IntN.{pos, natAbs, _+ℤ_, _*ℤ_};
+ghost use lib.Signed.{leZ};
+ghost use Rattle.tables.specs.Table.{bit};
 ghost use Rattle.tables.specs.Descent.{childAt, offsetAt, sumAt, flavorAt};
 ghost use Rattle.lsystem.specs.A5Table.{a5Table};
 ghost use Rattle.lsystem.specs.A5Words.{stepWord, leafWord, classWord, spread};
+ghost use Rattle.lsystem.specs.Lookup.{chosen};
+use turtle::AB;
 
 // Four children of 13 bits: state in 5, then offset a and offset b, each (offset + 16) / 4, in 4.
 fn step_word(state: u64) -> u64
@@ -119,14 +123,14 @@ fn class_word(state: u64) -> u64
 }
 
 // A child's state, and where it starts in its parent's frame.
-pub struct Step {
+pub(crate) struct Step {
     pub state: u64,
     pub a: i64,
     pub b: i64,
 }
 
 // A cell of the last level: its corner sum in its state's frame, and its flavor.
-pub struct Leaf {
+pub(crate) struct Leaf {
     pub a: i64,
     pub b: i64,
     pub flavor: u8,
@@ -140,7 +144,7 @@ fn spread(w: u64, least: u64) -> i64
     (4 * (w % 16)) as i64 - least as i64
 }
 
-pub fn step_of(state: u64, digit: u64) -> Step
+pub(crate) fn step_of(state: u64, digit: u64) -> Step
     requires { ⌜ (state < 28) × (digit < 4) ⌝ }
     ensures { λ t. ⌜ (pos (t .state) ≡ childAt a5Table state digit) × ((t .a ≡ offsetAt a5Table state digit .a) × (t .b ≡ offsetAt a5Table state digit .b)) ⌝ }
 {
@@ -152,7 +156,7 @@ pub fn step_of(state: u64, digit: u64) -> Step
     }
 }
 
-pub fn leaf_of(state: u64, digit: u64) -> Leaf
+pub(crate) fn leaf_of(state: u64, digit: u64) -> Leaf
     requires { ⌜ (state < 28) × (digit < 4) ⌝ }
     ensures { λ l. ⌜ (l .a ≡ sumAt a5Table state digit .a) × ((l .b ≡ sumAt a5Table state digit .b) × (pos (l .flavor) ≡ flavorAt a5Table state digit)) ⌝ }
 {
@@ -162,4 +166,49 @@ pub fn leaf_of(state: u64, digit: u64) -> Leaf
         b: spread(w / 16, 28),
         flavor: (w / 256 % 4) as u8,
     }
+}
+
+// k at the scale 2^n.
+pub(crate) fn scaled(k: u64, n: u64) -> i64
+    requires { ⌜ (k < 32) × (n ≤ 30) ⌝ }
+    ensures { λ z. ⌜ z ≡ pos (k * 2 ^ n) ⌝ }
+{
+    (k << n) as i64
+}
+
+// x as often as the low three bits of w say.
+fn times(w: u64, x: i64) -> i64
+    requires { ⌜ natAbs x ≤ 2 ^ 36 ⌝ }
+    ensures { λ z. ⌜ z ≡ pos (w % 8) *ℤ x ⌝ }
+{
+    (w % 8) as i64 * x
+}
+
+// The bit of the separator in the low nine bits of w. It is the sign of a twelfth of the separator's
+// value, with what the three numbers of its word are too large by on the other side.
+fn side_of(w: u64, p: AB, unit: i64) -> u64
+    requires { ⌜ (natAbs (p .a) ≤ 2 ^ 36) × ((natAbs (p .b) ≤ 2 ^ 36) × (natAbs unit ≤ 2 ^ 36)) ⌝ }
+    ensures { λ s. ⌜ (s ≤ 1) × (s ≡ bit (leZ (pos 2 *ℤ (p .a +ℤ p .b) +ℤ pos 4 *ℤ unit) (pos (w % 8) *ℤ p .a +ℤ pos (w / 8 % 8) *ℤ p .b +ℤ pos (w / 64 % 8) *ℤ unit))) ⌝ }
+{
+    let a = p.a;
+    let b = p.b;
+    let value = times(w, a) + times(w / 8, b) + times(w / 64, unit);
+    if value < 2 * (a + b) + 4 * unit {
+        return 0;
+    }
+    1
+}
+
+// The child of a state that has the corner sum p, as seen from the state's start, where the children
+// are scaled by 2^n.
+pub(crate) fn classify(state: u64, p: AB, n: u64) -> u64
+    requires { ⌜ (state < 28) × ((n ≤ 28) × ((natAbs (p .a) ≤ 2 ^ 36) × (natAbs (p .b) ≤ 2 ^ 36))) ⌝ }
+    ensures { λ d. ⌜ (d < 4) × (d ≡ chosen n state p) ⌝ }
+{
+    let w = class_word(state);
+    let unit = scaled(24, n);
+    let first = side_of(w, p, unit);
+    let second = side_of(w >> 9, p, unit);
+    let third = side_of(w >> 18, p, unit);
+    (w >> (27 + 2 * (first + 2 * second + 4 * third))) % 4
 }

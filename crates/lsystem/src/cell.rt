@@ -26,13 +26,13 @@ pub enum CellAnswer {
 }
 
 // How an orientation walks: its axiom's state, from which end, and whether its triples are moved.
-pub struct Recipe {
+pub(crate) struct Recipe {
     pub state: u64,
     pub backward: bool,
     pub shifted: bool,
 }
 
-pub fn recipe_of(orientation: u8) -> Recipe
+pub(crate) fn recipe_of(orientation: u8) -> Recipe
     requires { ⌜ orientation ≤ 5 ⌝ }
     ensures { λ w. ⌜ (w .state ≡ axiomState orientation) × ((w .backward ≡ isBackward orientation) × (w .shifted ≡ isShifted orientation)) ⌝ }
 {
@@ -71,7 +71,7 @@ pub fn recipe_of(orientation: u8) -> Recipe
 }
 
 // 4^r
-pub fn cells_at(resolution: u8) -> u64
+pub(crate) fn cells_at(resolution: u8) -> u64
     requires { ⌜ resolution ≤ 30 ⌝ }
     ensures { λ n. ⌜ n ≡ 4 ^ resolution ⌝ }
 {
@@ -79,7 +79,7 @@ pub fn cells_at(resolution: u8) -> u64
 }
 
 // s, or the place as far from the other end.
-pub fn place_from(backward: bool, cells: u64, s: u64) -> u64
+pub(crate) fn place_from(backward: bool, cells: u64, s: u64) -> u64
     requires { ⌜ s < cells ⌝ }
     ensures { λ p. ⌜ p ≡ cond backward (cells - 1 - s) s ⌝ }
 {
@@ -89,13 +89,13 @@ pub fn place_from(backward: bool, cells: u64, s: u64) -> u64
     s
 }
 
-pub struct Drawn {
+pub(crate) struct Drawn {
     pub sum: AB,
     pub flavor: u8,
 }
 
 fn drawn_at(state: u64, levels: u64, place: u64) -> Drawn
-    requires { ⌜ (state < 28) × (levels ≤ 29) ⌝ }
+    requires { ⌜ (state < 28) × (levels ≤ 30) ⌝ }
     ensures { λ d. ⌜ (d .sum ≡ follow a5Table levels origin state place .sum) × (pos (d .flavor) ≡ follow a5Table levels origin state place .flavor) ⌝ }
 {
     let p = descend(state, levels, place);
@@ -116,7 +116,7 @@ fn thrice_plus(place: i64, leaf: i64) -> i64
 }
 
 // 2^r, by which a shifted orientation moves its triples.
-fn side_of(resolution: u8) -> i64
+pub(crate) fn side_of(resolution: u8) -> i64
     requires { ⌜ resolution ≤ 30 ⌝ }
     ensures { λ n. ⌜ n ≡ pos (2 ^ resolution) ⌝ }
 {

@@ -8,13 +8,13 @@ use crate::a5::Step;
 use crate::a5::step_of;
 
 // A state, and where its frame starts, in units of its level.
-pub struct Place {
+pub(crate) struct Place {
     pub a: i64,
     pub b: i64,
     pub state: u64,
 }
 
-pub fn digit_of(s: u64, k: u64) -> u64
+pub(crate) fn digit_of(s: u64, k: u64) -> u64
     requires { ⌜ k ≤ 30 ⌝ }
     ensures { λ d. ⌜ d ≡ s / 4 ^ k % 4 ⌝ }
 {
@@ -44,8 +44,8 @@ impl Place {
 }
 
 // Down from a state at the origin by the digits `levels` to 1 of s.
-pub fn descend(state: u64, levels: u64, s: u64) -> Place
-    requires { ⌜ (state < 28) × (levels ≤ 29) ⌝ }
+pub(crate) fn descend(state: u64, levels: u64, s: u64) -> Place
+    requires { ⌜ (state < 28) × (levels ≤ 30) ⌝ }
     ensures { λ p. ⌜ p ≡ descended levels s (atOrigin state) ⌝ }
 {
     let mut p = Place { a: 0, b: 0, state };

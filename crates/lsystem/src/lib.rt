@@ -6,6 +6,8 @@ use triple::Triple;
 pub mod a5;
 pub mod cell;
 pub mod descent;
+pub mod lookup;
+pub mod nodes;
 
 // A cell as a position names it.
 pub struct Named {

@@ -8,5 +8,6 @@ pub mod Arms
 pub mod Powers
 pub mod Digits
 pub mod Fractions
+pub mod Floats
 pub mod Lists
 pub mod Fill

@@ -9,7 +9,7 @@ use Rattle.lsystem.proofs.descent.descend.Statement.{statement}
 use Rattle.lsystem.proofs.descent.descend.Tie as tie
 
 abbrev Inv-loop : tie.InvT-loop
-Inv-loop state levels s p₀ k₀ p k = (k ≤ 29) × (Near k p × (descended k s p ≡ descended levels s (atOrigin state)))
+Inv-loop state levels s p₀ k₀ p k = (k ≤ 30) × (Near k p × (descended k s p ≡ descended levels s (atOrigin state)))
 
 abbrev μ-loop : tie.MeasureT-loop
 μ-loop state levels s p₀ k₀ p k = k
