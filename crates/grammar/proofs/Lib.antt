@@ -11,3 +11,12 @@ pub mod WordLaws
 pub mod BookLaws
 pub mod ExpandLaws
 pub mod WordDetermined
+pub mod CutLaws
+pub mod ListLaws
+pub mod FirstLaws
+pub mod LineLaws
+pub mod TallyLaws
+pub mod VerdictLaws
+pub mod NetLaws
+pub mod AnswerLaws
+pub mod TextDetermined

@@ -73,7 +73,7 @@ equal-integers x y t =
     let k : y ≤ℤ x = leZ-yes (both-right (leZ x y) (leZ y x) t) in
     omega (arith, orders)
 
-equal-pairs : (p q : AB) → T (equalAB p q) → p ≡ q
+pub equal-pairs : (p q : AB) → T (equalAB p q) → p ≡ q
 equal-pairs p q t =
     let e = equal-integers (p .a) (q .a) (both-left (equal (p .a) (q .a)) (equal (p .b) (q .b)) t) in
     let f = equal-integers (p .b) (q .b) (both-right (equal (p .a) (q .a)) (equal (p .b) (q .b)) t) in

@@ -5,3 +5,5 @@ pub mod Tests
 pub mod WordAnswers
 pub mod Books
 pub mod Ways
+pub mod TextAnswers
+pub mod TextParts

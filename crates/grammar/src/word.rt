@@ -46,7 +46,7 @@ enum Way {
     Itself,
 }
 
-fn upper(b: u8) -> u8
+pub(crate) fn upper(b: u8) -> u8
     ensures { λ r. ⌜ r ≡ upper b ⌝ }
 {
     match b {
@@ -101,7 +101,7 @@ pub fn reverse_motif(s: &[u8], out: &mut [u8]) -> WordAnswer
     WordAnswer::Written(s.len())
 }
 
-fn least(a: usize, b: usize) -> usize
+pub(crate) fn least(a: usize, b: usize) -> usize
     ensures { λ r. ⌜ r ≡ min a b ⌝ }
 {
     if a < b { a } else { b }
@@ -152,6 +152,13 @@ fn part_of(words: &[u8], p: Part) -> &[u8]
     let lo = p.lo;
     let hi = p.hi;
     &words[lo..hi]
+}
+
+// The word of so many bytes from a place on, or of as many as there are.
+pub(crate) fn word_at(words: &[u8], from: usize, len: usize) -> &[u8]
+    ensures { λ w. ⌜ now w ≡ take len (drop from (now (words .entry))) ⌝ }
+{
+    part_of(words, cut(words, from, len))
 }
 
 fn word_len(words: &[u8], book: Book, b: u8) -> usize

@@ -19,7 +19,7 @@ use Rattle.lsystem.specs.A5Words.{stepWord, stepWords, leafWord, leafWor
 -- w is the word of state k
 abbrev pub Step : ℕ → ℕ → ℕ → List Claim
 Step word k d =
-    let w = word / 2 ^ (13 * d) in
+    let w = word / 2 ^ (16 * d) in
     int (pos (w % 32)) (childAt a5Table k d) ∷ int (spread 16 (w / 32 % 16)) (offsetAt a5Table k d .a) ∷ int (spread 16 (w / 512 % 16)) (offsetAt a5Table k d .b) ∷ []
 
 step-all : T (all 28 4 (λ k. Step (stepWord k) k))

@@ -11,39 +11,39 @@ ghost use Rattle.lsystem.specs.A5Words.{stepWord, leafWord, classWord, s
 ghost use Rattle.lsystem.specs.Lookup.{chosen};
 use turtle::AB;
 
-// Four children of 13 bits: state in 5, then offset a and offset b, each (offset + 16) / 4, in 4.
+// Four children, each in 16 bits: state in 5, then offset a and offset b, each (offset + 16) / 4, in 4.
 fn step_word(state: u64) -> u64
     ensures { λ w. ⌜ w ≡ stepWord state ⌝ }
 {
     match state {
-        0 => 0x2811300d94888,
-        1 => 0x601b105496889,
-        2 => 0x820392d912882,
-        3 => 0x608b28910883,
-        4 => 0x2889b9cd9a888,
-        5 => 0x6082899498889,
-        6 => 0x4281214d14898,
-        7 => 0x468b211516899,
-        8 => 0x4819408dac888,
-        9 => 0x401300d4ae889,
-        10 => 0x4489314d94888,
-        11 => 0x4483111496889,
-        12 => 0x525316191e890,
-        13 => 0x365936491c891,
-        14 => 0x56b336191c890,
-        15 => 0x32b916491e891,
-        16 => 0x6482b5d1b288e,
-        17 => 0x24899590b088f,
-        18 => 0x16b0aec92a883,
-        19 => 0x72bb9e9928882,
-        20 => 0x7254161926882,
-        21 => 0x1658364924883,
-        22 => 0x36b2220920891,
-        23 => 0x52ba225922890,
-        24 => 0x32b2160926883,
-        25 => 0x56ba365924882,
-        26 => 0x2211204d14898,
-        27 => 0x661b201516899,
+        0 => 0x50204c006ca0888,
+        1 => 0xc030c410a4b0889,
+        2 => 0x10400e4b0c890882,
+        3 => 0xc102ca04880883,
+        4 => 0x51106e706cd0888,
+        5 => 0xc100a260a4c0889,
+        6 => 0x8500485068a0898,
+        7 => 0x8d10c840a8b0899,
+        8 => 0x903050206d60888,
+        9 => 0x8020c030a570889,
+        10 => 0x89104c506ca0888,
+        11 => 0x8900c440a4b0889,
+        12 => 0xa4a0c580c8f0890,
+        13 => 0x6cb04d9048e0891,
+        14 => 0xad60cd80c8e0890,
+        15 => 0x6570459048f0891,
+        16 => 0xc900ad708d9088e,
+        17 => 0x49106560858088f,
+        18 => 0x2d602bb04950883,
+        19 => 0xe570e7a0c940882,
+        20 => 0xe4a10580c930882,
+        21 => 0x2cb00d904920883,
+        22 => 0x6d6088804900891,
+        23 => 0xa5708890c910890,
+        24 => 0x656085804930883,
+        25 => 0xad708d90c920882,
+        26 => 0x4420481068a0898,
+        27 => 0xcc30c800a8b0899,
         _ => 0,
     }
 }
@@ -148,7 +148,7 @@ pub(crate) fn step_of(state: u64, digit: u64) -> Step
     requires { ⌜ (state < 28) × (digit < 4) ⌝ }
     ensures { λ t. ⌜ (pos (t .state) ≡ childAt a5Table state digit) × ((t .a ≡ offsetAt a5Table state digit .a) × (t .b ≡ offsetAt a5Table state digit .b)) ⌝ }
 {
-    let w = step_word(state) >> (13 * digit);
+    let w = step_word(state) >> (16 * digit);
     Step {
         state: w % 32,
         a: spread(w / 32, 16),

@@ -32,41 +32,17 @@ pub(crate) struct Recipe {
     pub shifted: bool,
 }
 
+// Read off words and not by arms: where orientations are mixed, a branch by them costs as much as a short
+// descent.
 pub(crate) fn recipe_of(orientation: u8) -> Recipe
     requires { ⌜ orientation ≤ 5 ⌝ }
     ensures { λ w. ⌜ (w .state ≡ axiomState orientation) × ((w .backward ≡ isBackward orientation) × (w .shifted ≡ isShifted orientation)) ⌝ }
 {
-    match orientation {
-        0 => Recipe {
-            state: 0,
-            backward: false,
-            shifted: false,
-        },
-        1 => Recipe {
-            state: 0,
-            backward: true,
-            shifted: false,
-        },
-        2 => Recipe {
-            state: 4,
-            backward: false,
-            shifted: false,
-        },
-        3 => Recipe {
-            state: 4,
-            backward: true,
-            shifted: false,
-        },
-        4 => Recipe {
-            state: 2,
-            backward: true,
-            shifted: true,
-        },
-        _ => Recipe {
-            state: 2,
-            backward: false,
-            shifted: true,
-        },
+    let o = orientation as u64;
+    Recipe {
+        state: (0x224400 >> (4 * o)) % 16,
+        backward: (0b011010u64 >> o) % 2 == 1,
+        shifted: orientation > 3,
     }
 }
 

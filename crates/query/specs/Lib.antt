@@ -1,3 +1,6 @@
 pub mod Numbers
 pub mod Queries
 pub mod Lines
+pub mod Words
+pub mod Prints
+pub mod Answers

@@ -4,6 +4,12 @@
 use lsystem::Named;
 use lsystem::Position;
 use triple::Triple;
+use triple::refusal::Refusal;
+
+pub mod answer;
+pub mod line;
+mod number;
+pub mod print;
 
 // Each names an orientation and a resolution, and then a position, a triple or a point of two f64.
 pub enum Query {
@@ -17,4 +23,14 @@ pub enum Found {
     Cell(Named),
     Position(Position),
     Point(Triple, Position),
+}
+
+pub enum QueryAnswer {
+    Query(Query),
+    Refused(Refusal),
+}
+
+pub enum FoundAnswer {
+    Found(Found),
+    Refused(Refusal),
 }

@@ -1,0 +1,54 @@
+-- Each contract of this crate allows one result alone: one status, and one content of every slice that is lent to be written.
+-- Assumes nothing.
+use mathlib.Core.Path.{_≡_, sym, _∙_}
+use mathlib.Core.List.{List}
+use Prim.Native.Nat.{ℕ}
+use lib.IntN.{ℤ}
+use lib.Ieee.{Float}
+use Rattle.triple.specs.Refusals.{Told}
+use Rattle.capi.specs.Calls.{cellCall, positionCall, nodeCall, stepCall, pointCall, cornerCall, tripleCall, writeCall, readCall, lineCall}
+use Rattle.capi.proofs.LentLaws.{Called, CalledBoth}
+
+-- ---- whatever the call gives
+module _ {A : Type 0} (call : Told (List A)) (slice : List A) where
+  called-once : (m n : ℕ) (x y : List A) → Called call slice m x → Called call slice n y → (m ≡ n) × (x ≡ y)
+  called-once m n x y p q = (p .0 ∙ sym (q .0), p .1 ∙ sym (q .1))
+
+module _ {A B : Type 0} (call : Told (List A × List B)) (first : List A) (second : List B) where
+  called-both-once : (m n : ℕ) (v w : List A) (x y : List B) → CalledBoth call first second m v x → CalledBoth call first second n w y → (m ≡ n) × (v ≡ w) × (x ≡ y)
+  called-both-once m n v w x y p q = (p .0 ∙ sym (q .0), p .1 ∙ sym (q .1), p .2 ∙ sym (q .2))
+
+-- ---- the operations
+pub hb-cell-determined : (o r s : ℕ) (out : List ℤ) (m n : ℕ) (x y : List ℤ) → Called (cellCall o r s) out m x → Called (cellCall o r s) out n y → (m ≡ n) × (x ≡ y)
+hb-cell-determined o r s = called-once (cellCall o r s)
+
+pub hb-position-determined : (o r : ℕ) (x y z : ℤ) (out : List ℕ) (m n : ℕ) (v w : List ℕ)
+    → Called (positionCall o r x y z) out m v → Called (positionCall o r x y z) out n w → (m ≡ n) × (v ≡ w)
+hb-position-determined o r x y z = called-once (positionCall o r x y z)
+
+pub hb-node-determined : (o r : ℕ) (x y z : ℤ) (numbers : List ℤ) (places : List Float) (m n : ℕ) (t u : List ℤ) (v w : List Float)
+    → CalledBoth (nodeCall o r x y z) numbers places m t v → CalledBoth (nodeCall o r x y z) numbers places n u w → (m ≡ n) × (t ≡ u) × (v ≡ w)
+hb-node-determined o r x y z = called-both-once (nodeCall o r x y z)
+
+pub hb-child-determined : (motif flip : ℕ) (a b : Float) (d r o : ℕ) (numbers : List ℤ) (places : List Float) (m n : ℕ) (t u : List ℤ) (v w : List Float)
+    → CalledBoth (stepCall motif flip a b d r o) numbers places m t v → CalledBoth (stepCall motif flip a b d r o) numbers places n u w → (m ≡ n) × (t ≡ u) × (v ≡ w)
+hb-child-determined motif flip a b d r o = called-both-once (stepCall motif flip a b d r o)
+
+pub hb-point-determined : (i j : Float) (r : ℕ) (out : List ℤ) (m n : ℕ) (x y : List ℤ) → Called (pointCall i j r) out m x → Called (pointCall i j r) out n y → (m ≡ n) × (x ≡ y)
+hb-point-determined i j r = called-once (pointCall i j r)
+
+pub hb-corner-sum-determined : (x y z : ℤ) (out : List ℤ) (m n : ℕ) (v w : List ℤ) → Called (cornerCall x y z) out m v → Called (cornerCall x y z) out n w → (m ≡ n) × (v ≡ w)
+hb-corner-sum-determined x y z = called-once (cornerCall x y z)
+
+pub hb-triple-determined : (a b : ℤ) (out : List ℤ) (m n : ℕ) (x y : List ℤ) → Called (tripleCall a b) out m x → Called (tripleCall a b) out n y → (m ≡ n) × (x ≡ y)
+hb-triple-determined a b = called-once (tripleCall a b)
+
+pub hb-code-write-determined : (o r s : ℕ) (bytes out : List ℕ) (m n : ℕ) (v w x y : List ℕ)
+    → CalledBoth (writeCall o r s) bytes out m v x → CalledBoth (writeCall o r s) bytes out n w y → (m ≡ n) × (v ≡ w) × (x ≡ y)
+hb-code-write-determined o r s = called-both-once (writeCall o r s)
+
+pub hb-code-read-determined : (bytes out : List ℕ) (m n : ℕ) (x y : List ℕ) → Called (readCall bytes) out m x → Called (readCall bytes) out n y → (m ≡ n) × (x ≡ y)
+hb-code-read-determined bytes = called-once (readCall bytes)
+
+pub hb-line-determined : (line text out : List ℕ) (m n : ℕ) (v w x y : List ℕ) → CalledBoth (lineCall line) text out m v x → CalledBoth (lineCall line) text out n w y → (m ≡ n) × (v ≡ w) × (x ≡ y)
+hb-line-determined line = called-both-once (lineCall line)

@@ -1,0 +1,33 @@
+-- Calls by computation: what is written, what is left as it was, and the order of the refusals.
+use mathlib.Core.Path.{_≡_, refl}
+use mathlib.Core.List.{[], _∷_}
+use Prim.Native.Nat.{_^_}
+use lib.IntN.{pos, negsuc}
+use Rattle.triple.specs.Refusals.{numberOf}
+use Rattle.turtle.specs.Plane.{far}
+use Rattle.turtle.specs.Corners.{cornerSum, candidate, has, tripleOf}
+use Rattle.code.specs.Codes.{bitsOf, valueOf, bytesOf, codeLength, codeBits, codeBytes}
+use Rattle.capi.specs.Lent.{statusOf, afterCall, firstOf, secondOf}
+use Rattle.capi.specs.Calls.{tripleCall, writeCall}
+
+-- the corner sum (20, -16) into four places and into two; (14, -4), refused before the room is looked at
+pub triple-examples :
+    (statusOf (tripleCall (pos 20) (negsuc 15)) (pos 7 ∷ pos 7 ∷ pos 7 ∷ pos 7 ∷ []) ≡ 0)
+    × (afterCall (tripleCall (pos 20) (negsuc 15)) (pos 7 ∷ pos 7 ∷ pos 7 ∷ pos 7 ∷ []) ≡ negsuc 0 ∷ pos 1 ∷ pos 0 ∷ pos 7 ∷ [])
+    × (statusOf (tripleCall (pos 20) (negsuc 15)) (pos 7 ∷ pos 7 ∷ []) ≡ 10)
+    × (afterCall (tripleCall (pos 20) (negsuc 15)) (pos 7 ∷ pos 7 ∷ []) ≡ pos 7 ∷ pos 7 ∷ [])
+    × (statusOf (tripleCall (pos 14) (negsuc 3)) [] ≡ 6)
+unfolding numberOf far cornerSum candidate has tripleOf statusOf afterCall
+triple-examples = (refl, refl, refl, refl, refl)
+
+-- the code of UV r 2 s 6 and its count: with room for both; with none for the count; with none for the code
+pub write-examples :
+    (statusOf (firstOf (writeCall 0 2 6) (7 ∷ [])) (7 ∷ 8 ∷ 9 ∷ []) ≡ 0)
+    × (afterCall (firstOf (writeCall 0 2 6) (7 ∷ [])) (7 ∷ 8 ∷ 9 ∷ []) ≡ 0x02 ∷ 0x60 ∷ 9 ∷ [])
+    × (afterCall (secondOf (writeCall 0 2 6) (7 ∷ 8 ∷ 9 ∷ [])) (7 ∷ []) ≡ 2 ∷ [])
+    × (statusOf (firstOf (writeCall 0 2 6) []) (7 ∷ 8 ∷ 9 ∷ []) ≡ 10)
+    × (afterCall (firstOf (writeCall 0 2 6) []) (7 ∷ 8 ∷ 9 ∷ []) ≡ 7 ∷ 8 ∷ 9 ∷ [])
+    × (afterCall (secondOf (writeCall 0 2 6) (7 ∷ [])) (7 ∷ []) ≡ 7 ∷ [])
+    × (statusOf (firstOf (writeCall 5 30 (4 ^ 30)) []) [] ≡ 3)
+unfolding numberOf bitsOf valueOf bytesOf codeLength codeBits codeBytes writeCall statusOf afterCall firstOf secondOf
+write-examples = (refl, refl, refl, refl, refl, refl, refl)

@@ -1,0 +1,6 @@
+pub mod LentLaws
+pub mod SignedLaws
+pub mod WriteLaws
+pub mod LineLaws
+pub mod Determined
+pub mod Examples

@@ -1,0 +1,57 @@
+-- `hb_child`: the child's values and its node's positions are written, or the refusal's number is answered.
+use mathlib.Core.Path.{sym, ap, _∙_}
+use borrow.Author.Needs.{needs}
+use Rattle.lsystem.specs.NodeAnswers.{saidChild}
+use Rattle.lsystem.proofs.NodeMotifs.{child-motif}
+use Rattle.capi.specs.Calls.{stepValues}
+use Rattle.capi.proofs.LentLaws.{both-told, both-refused}
+use Rattle.capi.proofs.hb_child.Statement.{statement}
+use Rattle.capi.proofs.hb_child.Tie as tie
+
+child-requires : tie.Need-child-requires
+child-requires c κs = search needs
+
+enum-known-answer : tie.Need-enum-known-answer
+enum-known-answer c = search needs
+
+put-step-requires : tie.Need-put-step-requires
+put-step-requires c κs =
+    let a = c .before .before .before in
+    child-motif _ _ _ _ _ (sym (a .before .before .child .ensures) ∙ ap saidChild (a .answer .given .1))
+
+enum-known-answer-2 : tie.Need-enum-known-answer-2
+enum-known-answer-2 c = search needs
+
+number-requires : tie.Need-number-requires
+number-requires c κs = search needs
+
+same-length : tie.Need-same-length
+same-length c = search needs
+
+same-length-2 : tie.Need-same-length-2
+same-length-2 c = search needs
+
+returns : tie.Need-returns
+returns c =
+    let p = c .before .before .before in
+    let a = p .before .before .before .before in
+    both-told stepValues _ _ (a .before .before .child .ensures) (ap saidChild (a .answer .given .1)) (p .put-step .ensures)
+
+returns-2 : tie.Need-returns-2
+returns-2 c =
+    let a = c .before .before in
+    both-refused stepValues _ _ (a .before .before .child .ensures) (ap saidChild (a .answer2 .given .1)) (c .number .ensures)
+
+pub hb-child-spec : {M : Type 1} → statement M
+hb-child-spec =
+    tie.close
+    (tie.spec
+    child-requires
+    enum-known-answer
+    put-step-requires
+    enum-known-answer-2
+    number-requires
+    same-length
+    same-length-2
+    returns
+    returns-2)

@@ -1,0 +1,93 @@
+-- Each call's values, in the order in which it writes them.
+use mathlib.Core.List.{List, [], _∷_}
+use Prim.Native.Nat.{ℕ, _^_}
+use lib.Dec.{leb, ltb}
+use lib.IntN.{ℤ, pos}
+use lib.ListN.{length}
+use lib.Ieee.{Float}
+use Rattle.triple.specs.declared.Triple.{Triple}
+use Rattle.triple.specs.declared.refusal.Refusal.the-variants as Is
+use Rattle.triple.specs.Refusals.{Told, told, refuse}
+use Rattle.turtle.specs.declared.AB.{AB}
+use Rattle.turtle.specs.Corners.{cornerSumOf, tripleOf}
+use Rattle.lsystem.specs.declared.Named.{Named}
+use Rattle.lsystem.specs.declared.Position.{Position}
+use Rattle.lsystem.specs.declared.Node.{Node}
+use Rattle.lsystem.specs.declared.ChildStep.{ChildStep}
+use Rattle.lsystem.specs.declared.Reached.{Reached}
+use Rattle.lsystem.specs.Cells.{cellOf, positionOf}
+use Rattle.lsystem.specs.Nodes.{childOf, nodeOf}
+use Rattle.curve.specs.Points.{pointOf}
+use Rattle.code.specs.declared.Reading.{Reading}
+use Rattle.code.specs.Codes.{codeLength, codeBytes, readOf}
+use Rattle.query.specs.Lines.{answerLine}
+use Rattle.capi.specs.Lent.{valued}
+
+-- x y z
+abbrev pub tripleValues : Triple → List ℤ
+tripleValues t = t .x ∷ t .y ∷ t .z ∷ []
+
+-- x y z flavor
+abbrev pub cellValues : Named → List ℤ
+cellValues c = c .triple .x ∷ c .triple .y ∷ c .triple .z ∷ pos (c .flavor) ∷ []
+
+-- s flavor
+abbrev pub positionValues : Position → List ℕ
+positionValues p = p .s ∷ p .flavor ∷ []
+
+-- motif flip, and the two positions
+abbrev pub nodeValues : Node → List ℤ × List Float
+nodeValues n = (pos (n .motif) ∷ pos (n .flip) ∷ [], n .«pos_a» ∷ n .«pos_b» ∷ [])
+
+-- x y z flavor motif flip, and the two positions
+abbrev pub stepValues : ChildStep → List ℤ × List Float
+stepValues c =
+    (c .cell .triple .x ∷ c .cell .triple .y ∷ c .cell .triple .z ∷ pos (c .cell .flavor) ∷ pos (c .node .motif) ∷ pos (c .node .flip) ∷ [], c .node .«pos_a» ∷ c .node .«pos_b» ∷ [])
+
+-- a b
+abbrev pub pairValues : AB → List ℤ
+pairValues p = p .a ∷ p .b ∷ []
+
+-- count
+abbrev pub countValues : ℕ → List ℕ
+countValues n = n ∷ []
+
+-- o r s count
+abbrev pub readingValues : Reading → List ℕ
+readingValues r = r .orientation ∷ r .resolution ∷ r .s ∷ r .used ∷ []
+
+abbrev pub cellCall : ℕ → ℕ → ℕ → Told (List ℤ)
+cellCall o r s = valued cellValues (cellOf o r s)
+
+abbrev pub positionCall : ℕ → ℕ → ℤ → ℤ → ℤ → Told (List ℕ)
+positionCall o r x y z = valued positionValues (positionOf o r (record { x = x; y = y; z = z }))
+
+abbrev pub nodeCall : ℕ → ℕ → ℤ → ℤ → ℤ → Told (List ℤ × List Float)
+nodeCall o r x y z = valued (λ (p : Reached). nodeValues (p .node)) (nodeOf o r (record { x = x; y = y; z = z }))
+
+abbrev pub stepCall : ℕ → ℕ → Float → Float → ℕ → ℕ → ℕ → Told (List ℤ × List Float)
+stepCall m f a b d r o = valued stepValues (childOf o r (record { motif = m; flip = f; «pos_a» = a; «pos_b» = b }) d)
+
+abbrev pub pointCall : Float → Float → ℕ → Told (List ℤ)
+pointCall i j r = valued tripleValues (pointOf r i j)
+
+abbrev pub cornerCall : ℤ → ℤ → ℤ → Told (List ℤ)
+cornerCall x y z = valued pairValues (cornerSumOf (record { x = x; y = y; z = z }))
+
+abbrev pub tripleCall : ℤ → ℤ → Told (List ℤ)
+tripleCall a b = valued tripleValues (tripleOf (record { a = a; b = b }))
+
+abbrev pub readCall : List ℕ → Told (List ℕ)
+readCall bytes = valued readingValues (readOf bytes)
+
+-- the code's bytes, and their count
+unfoldable pub writeCall : ℕ → ℕ → ℕ → Told (List ℕ × List ℕ)
+writeCall o r s =
+    refuse (ltb 30 r) Is.Resolution
+    (refuse (ltb 5 o) Is.Orientation
+    (refuse (leb (4 ^ r) s) Is.Position
+    (told (codeBytes o r s, countValues (codeLength r)))))
+
+-- the answer to a line as the program prints it, without LF, and its length
+abbrev pub lineCall : List ℕ → Told (List ℕ × List ℕ)
+lineCall line = told (answerLine line, countValues (length (answerLine line)))

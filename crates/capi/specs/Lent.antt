@@ -1,0 +1,34 @@
+-- What a call answers that writes its values to a lent slice: its status, and what the slice holds afterwards.
+use mathlib.Core.Bool.{cond}
+use mathlib.Core.List.{List, _++_}
+use Prim.Native.Nat.{ℕ}
+use lib.Dec.{ltb}
+use lib.ListN.{length, drop}
+use Rattle.triple.specs.declared.refusal.Refusal.the-variants.{Room}
+use Rattle.triple.specs.Refusals.{Told, told, refused, numberOf, refuse}
+
+-- what a call gives, as the values that it writes
+abbrev pub valued : {A B : Type 0} → (A → B) → Told A → Told B
+valued values (told a) = told (values a)
+valued values (refused n) = refused n
+
+-- 0, or the number of the refusal; too short a slice is the last test
+unfoldable pub statusOf : {A : Type 0} → Told (List A) → List A → ℕ
+statusOf (told values) slice = cond (ltb (length slice) (length values)) (numberOf Room) 0
+statusOf (refused n) slice = n
+
+-- the values at the slice's front, and behind them what was there; as it was where the call is refused
+unfoldable pub afterCall : {A : Type 0} → Told (List A) → List A → List A
+afterCall (told values) slice = cond (ltb (length slice) (length values)) slice (values ++ drop (length values) slice)
+afterCall (refused n) slice = slice
+
+-- ---- values for two slices: both are written, or none
+-- those for the first, where the second has room
+unfoldable pub firstOf : {A B : Type 0} → Told (List A × List B) → List B → Told (List A)
+firstOf (told (values, others)) second = refuse (ltb (length second) (length others)) Room (told values)
+firstOf (refused n) second = refused n
+
+-- those for the second, where the first has room
+unfoldable pub secondOf : {A B : Type 0} → Told (List A × List B) → List A → Told (List B)
+secondOf (told (values, others)) first = refuse (ltb (length first) (length values)) Room (told others)
+secondOf (refused n) first = refused n

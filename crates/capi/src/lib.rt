@@ -1,0 +1,212 @@
+// Answers for callers in C and Rust: the operations of the crates below as functions of a static
+// library, declared in include/haspbarley.h. What each answers is its crate's; what stands here is
+// how an answer becomes a status and a few numbers in a slice.
+//
+// Every function takes every input. It answers 0 and writes its values at the front of the slice that
+// it is lent, or it answers the number of a refusal and leaves the slice as it was. Too short a slice
+// is refusal 10, tested last. A slice passes as a pointer and then a length.
+ghost use mathlib.Core.Path.{_≡_};
+ghost use mathlib.Core.Bool.{cond};
+ghost use Prim.Native.Nat.{_≤_};
+ghost use lib.Dec.{ltb};
+ghost use Rattle.capi.specs.Lent.{statusOf, afterCall, firstOf, secondOf};
+ghost use Rattle.capi.specs.Calls.{cellCall, positionCall, nodeCall, stepCall, pointCall, cornerCall, tripleCall, readCall, writeCall, lineCall};
+use code::ReadAnswer;
+use code::WriteAnswer;
+use curve::PointAnswer;
+use lsystem::Node;
+use lsystem::cell::CellAnswer;
+use lsystem::lookup::PositionAnswer;
+use lsystem::nodes::ChildAnswer;
+use lsystem::nodes::ReachedAnswer;
+use put::put_cell;
+use put::put_count;
+use put::put_node;
+use put::put_pair;
+use put::put_position;
+use put::put_reading;
+use put::put_step;
+use put::put_triple;
+use query::print::PrintAnswer;
+use triple::Triple;
+use turtle::AB;
+use turtle::corner::CornerAnswer;
+use turtle::corner::TripleAnswer;
+
+mod put;
+
+// The cell that a position names: x y z flavor.
+#[no_mangle]
+pub extern "C" fn hb_cell(orientation: u8, resolution: u8, s: u64, out: &mut [i32]) -> u8
+    ensures { λ n. ⌜ (n ≡ statusOf (cellCall orientation resolution s) (now (out .entry))) × (now (out .exit) ≡ afterCall (cellCall orientation resolution s) (now (out .entry))) ⌝ }
+{
+    let answer = lsystem::cell::s_to_cell(orientation, resolution, s);
+    match answer {
+        CellAnswer::Cell(c) => put_cell(c, out),
+        CellAnswer::Refused(e) => e.number(),
+    }
+}
+
+// The position that names a cell: s flavor.
+#[no_mangle]
+pub extern "C" fn hb_position(
+    orientation: u8,
+    resolution: u8,
+    x: i32,
+    y: i32,
+    z: i32,
+    out: &mut [u64],
+) -> u8
+    ensures { λ n. ⌜ (n ≡ statusOf (positionCall orientation resolution x y z) (now (out .entry))) × (now (out .exit) ≡ afterCall (positionCall orientation resolution x y z) (now (out .entry))) ⌝ }
+{
+    let answer = lsystem::lookup::triple_to_s(orientation, resolution, Triple::new(x, y, z));
+    match answer {
+        PositionAnswer::At(p) => put_position(p, out),
+        PositionAnswer::Refused(e) => e.number(),
+    }
+}
+
+// The node below a cell: motif flip to `numbers`, and its two positions to `places`.
+#[no_mangle]
+pub extern "C" fn hb_node(
+    orientation: u8,
+    resolution: u8,
+    x: i32,
+    y: i32,
+    z: i32,
+    numbers: &mut [i32],
+    places: &mut [f64],
+) -> u8
+    ensures { λ n. ⌜ (n ≡ statusOf (firstOf (nodeCall orientation resolution x y z) (now (places .entry))) (now (numbers .entry))) × (now (numbers .exit) ≡ afterCall (firstOf (nodeCall orientation resolution x y z) (now (places .entry))) (now (numbers .entry))) × (now (places .exit) ≡ afterCall (secondOf (nodeCall orientation resolution x y z) (now (numbers .entry))) (now (places .entry))) ⌝ }
+{
+    let answer = lsystem::nodes::triple_to_curve_node(
+        orientation,
+        resolution,
+        Triple::new(x, y, z),
+    );
+    match answer {
+        ReachedAnswer::Reached(p) => put_node(p.node, numbers, places),
+        ReachedAnswer::Refused(e) => e.number(),
+    }
+}
+
+// The child step from a node: x y z flavor motif flip to `numbers`, and the two positions of the node
+// below the child to `places`.
+#[no_mangle]
+pub extern "C" fn hb_child(
+    motif: u64,
+    flip: u8,
+    a: f64,
+    b: f64,
+    digit: u8,
+    resolution: u8,
+    orientation: u8,
+    numbers: &mut [i32],
+    places: &mut [f64],
+) -> u8
+    ensures { λ n. ⌜ (n ≡ statusOf (firstOf (stepCall motif flip a b digit resolution orientation) (now (places .entry))) (now (numbers .entry))) × (now (numbers .exit) ≡ afterCall (firstOf (stepCall motif flip a b digit resolution orientation) (now (places .entry))) (now (numbers .entry))) × (now (places .exit) ≡ afterCall (secondOf (stepCall motif flip a b digit resolution orientation) (now (numbers .entry))) (now (places .entry))) ⌝ }
+{
+    let node = Node {
+        motif,
+        flip,
+        pos_a: a,
+        pos_b: b,
+    };
+    let answer = node.child(digit, resolution, orientation);
+    match answer {
+        ChildAnswer::Child(c) => put_step(c, numbers, places),
+        ChildAnswer::Refused(e) => e.number(),
+    }
+}
+
+// The triple of the cell that a point falls in: x y z.
+#[no_mangle]
+pub extern "C" fn hb_point(i: f64, j: f64, resolution: u8, out: &mut [i32]) -> u8
+    ensures { λ n. ⌜ (n ≡ statusOf (pointCall i j resolution) (now (out .entry))) × (now (out .exit) ≡ afterCall (pointCall i j resolution) (now (out .entry))) ⌝ }
+{
+    let answer = curve::round_to_triple(i, j, resolution);
+    match answer {
+        PointAnswer::At(t) => put_triple(t, out),
+        PointAnswer::Refused(e) => e.number(),
+    }
+}
+
+// The corner sum of a triple's cell: a b.
+#[no_mangle]
+pub extern "C" fn hb_corner_sum(x: i32, y: i32, z: i32, out: &mut [i64]) -> u8
+    ensures { λ n. ⌜ (n ≡ statusOf (cornerCall x y z) (now (out .entry))) × (now (out .exit) ≡ afterCall (cornerCall x y z) (now (out .entry))) ⌝ }
+{
+    let answer = turtle::corner::corner_sum(Triple::new(x, y, z));
+    match answer {
+        CornerAnswer::Sum(p) => put_pair(p, out),
+        CornerAnswer::Refused(e) => e.number(),
+    }
+}
+
+// The triple whose cell has a corner sum: x y z.
+#[no_mangle]
+pub extern "C" fn hb_triple(a: i64, b: i64, out: &mut [i32]) -> u8
+    ensures { λ n. ⌜ (n ≡ statusOf (tripleCall a b) (now (out .entry))) × (now (out .exit) ≡ afterCall (tripleCall a b) (now (out .entry))) ⌝ }
+{
+    let answer = AB::new(a, b).to_triple();
+    match answer {
+        TripleAnswer::At(t) => put_triple(t, out),
+        TripleAnswer::Refused(e) => e.number(),
+    }
+}
+
+// Writes a position's code to `bytes`, and the count of its bytes to `out`.
+#[no_mangle]
+pub extern "C" fn hb_code_write(
+    orientation: u8,
+    resolution: u8,
+    s: u64,
+    bytes: &mut [u8],
+    out: &mut [u64],
+) -> u8
+    ensures { λ n. ⌜ (n ≡ statusOf (firstOf (writeCall orientation resolution s) (now (out .entry))) (now (bytes .entry))) × (now (bytes .exit) ≡ afterCall (firstOf (writeCall orientation resolution s) (now (out .entry))) (now (bytes .entry))) × (now (out .exit) ≡ afterCall (secondOf (writeCall orientation resolution s) (now (bytes .entry))) (now (out .entry))) ⌝ }
+{
+    let room = lendable(bytes.len(), out.len());
+    let answer = code::write(orientation, resolution, s, &mut bytes[..room]);
+    match answer {
+        WriteAnswer::Written(count) => put_count(count, out),
+        WriteAnswer::Refused(e) => e.number(),
+    }
+}
+
+// How much of `bytes` a writer is lent: nothing where the count has no place in `out`. No code fits
+// into nothing, so that one which is not refused otherwise is then refused for room.
+fn lendable(bytes: usize, out: usize) -> usize
+    ensures { λ n. ⌜ (n ≤ bytes) × (n ≡ cond (ltb out 1) 0 bytes) ⌝ }
+{
+    if out < 1 {
+        return 0;
+    }
+    bytes
+}
+
+// Reads the code at the front of some bytes: orientation resolution s count.
+#[no_mangle]
+pub extern "C" fn hb_code_read(bytes: &[u8], out: &mut [u64]) -> u8
+    ensures { λ n. ⌜ (n ≡ statusOf (readCall (now (bytes .entry))) (now (out .entry))) × (now (out .exit) ≡ afterCall (readCall (now (bytes .entry))) (now (out .entry))) ⌝ }
+{
+    let answer = code::read(bytes);
+    match answer {
+        ReadAnswer::Read(r) => put_reading(r, out),
+        ReadAnswer::Refused(e) => e.number(),
+    }
+}
+
+// The answer to a query line as the program prints it, without LF, to `text`, and its length to `out`.
+// A line that is refused has an answer too, `!` and the number.
+#[no_mangle]
+pub extern "C" fn hb_line(line: &[u8], text: &mut [u8], out: &mut [u64]) -> u8
+    ensures { λ n. ⌜ (n ≡ statusOf (firstOf (lineCall (now (line .entry))) (now (out .entry))) (now (text .entry))) × (now (text .exit) ≡ afterCall (firstOf (lineCall (now (line .entry))) (now (out .entry))) (now (text .entry))) × (now (out .exit) ≡ afterCall (secondOf (lineCall (now (line .entry))) (now (text .entry))) (now (out .entry))) ⌝ }
+{
+    let room = lendable(text.len(), out.len());
+    let answer = query::answer::answer_line(line, &mut text[..room]);
+    match answer {
+        PrintAnswer::Printed(count) => put_count(count, out),
+        PrintAnswer::Refused(e) => e.number(),
+    }
+}

@@ -1,0 +1,150 @@
+// How values are laid out in a lent slice: each writer puts those of one type at the slice's front and
+// answers 0; it answers 10 where the slice is too short, and then leaves it as it was.
+ghost use mathlib.Core.Path.{_≡_};
+ghost use Rattle.triple.specs.Refusals.{told};
+ghost use Prim.Native.Nat.{_≤_};
+ghost use Rattle.capi.specs.Lent.{statusOf, afterCall, firstOf, secondOf};
+ghost use Rattle.capi.specs.Calls.{tripleValues, cellValues, positionValues, nodeValues, stepValues, pairValues, countValues, readingValues};
+use code::Reading;
+use lsystem::ChildStep;
+use lsystem::Named;
+use lsystem::Node;
+use lsystem::Position;
+use triple::Triple;
+use triple::refusal::Refusal;
+use turtle::AB;
+
+// x y z
+pub(crate) fn put_triple(t: Triple, out: &mut [i32]) -> u8
+    ensures { λ n. ⌜ (n ≡ statusOf (told (tripleValues t)) (now (out .entry))) × (now (out .exit) ≡ afterCall (told (tripleValues t)) (now (out .entry))) ⌝ }
+{
+    if out.len() < 3 {
+        return Refusal::Room.number();
+    }
+    let x = t.x;
+    let y = t.y;
+    let z = t.z;
+    out[0] = x;
+    out[1] = y;
+    out[2] = z;
+    0
+}
+
+// x y z flavor
+pub(crate) fn put_cell(c: Named, out: &mut [i32]) -> u8
+    ensures { λ n. ⌜ (n ≡ statusOf (told (cellValues c)) (now (out .entry))) × (now (out .exit) ≡ afterCall (told (cellValues c)) (now (out .entry))) ⌝ }
+{
+    if out.len() < 4 {
+        return Refusal::Room.number();
+    }
+    let t = c.triple;
+    let x = t.x;
+    let y = t.y;
+    let z = t.z;
+    let flavor = c.flavor as i32;
+    out[0] = x;
+    out[1] = y;
+    out[2] = z;
+    out[3] = flavor;
+    0
+}
+
+// s flavor
+pub(crate) fn put_position(p: Position, out: &mut [u64]) -> u8
+    ensures { λ n. ⌜ (n ≡ statusOf (told (positionValues p)) (now (out .entry))) × (now (out .exit) ≡ afterCall (told (positionValues p)) (now (out .entry))) ⌝ }
+{
+    if out.len() < 2 {
+        return Refusal::Room.number();
+    }
+    out[0] = p.s;
+    out[1] = p.flavor as u64;
+    0
+}
+
+// motif flip, and the two positions
+pub(crate) fn put_node(n: Node, numbers: &mut [i32], places: &mut [f64]) -> u8
+    requires { ⌜ n .motif ≤ 13 ⌝ }
+    ensures { λ k. ⌜ (k ≡ statusOf (firstOf (told (nodeValues n)) (now (places .entry))) (now (numbers .entry))) × (now (numbers .exit) ≡ afterCall (firstOf (told (nodeValues n)) (now (places .entry))) (now (numbers .entry))) × (now (places .exit) ≡ afterCall (secondOf (told (nodeValues n)) (now (numbers .entry))) (now (places .entry))) ⌝ }
+{
+    if numbers.len() < 2 {
+        return Refusal::Room.number();
+    }
+    if places.len() < 2 {
+        return Refusal::Room.number();
+    }
+    let motif = n.motif as i32;
+    let flip = n.flip as i32;
+    numbers[0] = motif;
+    numbers[1] = flip;
+    places[0] = n.pos_a;
+    places[1] = n.pos_b;
+    0
+}
+
+// x y z flavor motif flip, and the two positions
+pub(crate) fn put_step(c: ChildStep, numbers: &mut [i32], places: &mut [f64]) -> u8
+    requires { ⌜ c .node .motif ≤ 13 ⌝ }
+    ensures { λ k. ⌜ (k ≡ statusOf (firstOf (told (stepValues c)) (now (places .entry))) (now (numbers .entry))) × (now (numbers .exit) ≡ afterCall (firstOf (told (stepValues c)) (now (places .entry))) (now (numbers .entry))) × (now (places .exit) ≡ afterCall (secondOf (told (stepValues c)) (now (numbers .entry))) (now (places .entry))) ⌝ }
+{
+    if numbers.len() < 6 {
+        return Refusal::Room.number();
+    }
+    if places.len() < 2 {
+        return Refusal::Room.number();
+    }
+    let t = c.cell.triple;
+    let x = t.x;
+    let y = t.y;
+    let z = t.z;
+    let flavor = c.cell.flavor as i32;
+    let motif = c.node.motif as i32;
+    let flip = c.node.flip as i32;
+    numbers[0] = x;
+    numbers[1] = y;
+    numbers[2] = z;
+    numbers[3] = flavor;
+    numbers[4] = motif;
+    numbers[5] = flip;
+    places[0] = c.node.pos_a;
+    places[1] = c.node.pos_b;
+    0
+}
+
+// a b
+pub(crate) fn put_pair(p: AB, out: &mut [i64]) -> u8
+    ensures { λ n. ⌜ (n ≡ statusOf (told (pairValues p)) (now (out .entry))) × (now (out .exit) ≡ afterCall (told (pairValues p)) (now (out .entry))) ⌝ }
+{
+    if out.len() < 2 {
+        return Refusal::Room.number();
+    }
+    let a = p.a;
+    let b = p.b;
+    out[0] = a;
+    out[1] = b;
+    0
+}
+
+// count
+pub(crate) fn put_count(count: usize, out: &mut [u64]) -> u8
+    ensures { λ n. ⌜ (n ≡ statusOf (told (countValues count)) (now (out .entry))) × (now (out .exit) ≡ afterCall (told (countValues count)) (now (out .entry))) ⌝ }
+{
+    if out.len() < 1 {
+        return Refusal::Room.number();
+    }
+    out[0] = count as u64;
+    0
+}
+
+// orientation resolution s count
+pub(crate) fn put_reading(r: Reading, out: &mut [u64]) -> u8
+    ensures { λ n. ⌜ (n ≡ statusOf (told (readingValues r)) (now (out .entry))) × (now (out .exit) ≡ afterCall (told (readingValues r)) (now (out .entry))) ⌝ }
+{
+    if out.len() < 4 {
+        return Refusal::Room.number();
+    }
+    out[0] = r.orientation as u64;
+    out[1] = r.resolution as u64;
+    out[2] = r.s;
+    out[3] = r.used as u64;
+    0
+}

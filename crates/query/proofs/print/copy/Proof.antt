@@ -1,0 +1,54 @@
+-- The first i bytes are in place, and the rest is as it was. The measure is what is left.
+use borrow.Author.Needs.{needs}
+use mathlib.Core.Path.{_≡_}
+use Prim.Native.Nat.{_-_, _≤_}
+use lib.ListN.{length}
+use Rattle.whole.proofs.Fill.{poured}
+use Rattle.query.proofs.PrintLaws.{copy-laws}
+use Rattle.query.proofs.print.copy.Statement.{statement}
+use Rattle.query.proofs.print.copy.Tie as tie
+
+abbrev Inv-loop : tie.InvT-loop
+Inv-loop text n out₀ i₀ out i = (i ≤ n) × ((length out ≡ length out₀) × (out ≡ poured text i out₀))
+
+abbrev μ-loop : tie.MeasureT-loop
+μ-loop text n out₀ i₀ out i = n - i
+
+loop-holds : tie.Need-loop-holds Inv-loop μ-loop
+loop-holds c = search (needs, copy-laws)
+
+shared-slice-read-out : tie.Need-shared-slice-read-out Inv-loop μ-loop
+shared-slice-read-out c = search (needs, copy-laws)
+
+slice-write-out : tie.Need-slice-write-out Inv-loop μ-loop
+slice-write-out c = search (needs, copy-laws)
+
+add-i : tie.Need-add-i Inv-loop μ-loop
+add-i c = search (needs, copy-laws)
+
+loop-less : tie.Need-loop-less Inv-loop μ-loop
+loop-less c = search (needs, copy-laws)
+
+loop-again : tie.Need-loop-again Inv-loop μ-loop
+loop-again c = search (needs, copy-laws)
+
+same-length : tie.Need-same-length Inv-loop μ-loop
+same-length c = search (needs, copy-laws)
+
+returns : tie.Need-returns Inv-loop μ-loop
+returns c = search (needs, copy-laws)
+
+pub copy-spec : {M : Type 1} → statement M
+copy-spec =
+    tie.close
+    (tie.spec
+    Inv-loop
+    μ-loop
+    loop-holds
+    shared-slice-read-out
+    slice-write-out
+    add-i
+    loop-less
+    loop-again
+    same-length
+    returns)

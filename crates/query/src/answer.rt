@@ -1,0 +1,89 @@
+// What a query finds, and a line's whole answer.
+ghost use mathlib.Core.Path.{_≡_};
+ghost use Rattle.query.specs.declared.Query.{Query};
+ghost use Rattle.query.specs.Answers.{saidFound, saidPrint};
+ghost use Rattle.query.specs.Lines.{answerLine};
+ghost use Rattle.query.specs.Prints.{printOf, afterPrint};
+ghost use Rattle.query.specs.Queries.{answerOf, pointFound};
+use crate::Found;
+use crate::FoundAnswer;
+use crate::Query;
+use crate::QueryAnswer;
+use crate::line::read_line;
+use crate::print::PrintAnswer;
+use crate::print::print;
+use curve::PointAnswer;
+use curve::round_to_triple;
+use lsystem::cell::CellAnswer;
+use lsystem::cell::s_to_cell;
+use lsystem::lookup::PositionAnswer;
+use lsystem::lookup::triple_to_s;
+use triple::Triple;
+use triple::refusal::Refusal;
+
+pub fn answer(query: Query) -> FoundAnswer
+    ensures { λ a. ⌜ saidFound a ≡ answerOf query ⌝ }
+{
+    match query {
+        Query::Position(o, r, s) => cell_found(o, r, s),
+        Query::Cell(o, r, t) => position_found(o, r, t),
+        Query::Point(o, r, i, j) => point_found(o, r, i, j),
+    }
+}
+
+fn cell_found(o: u8, r: u8, s: u64) -> FoundAnswer
+    ensures { λ a. ⌜ saidFound a ≡ answerOf (Query.Position o r s) ⌝ }
+{
+    let found = s_to_cell(o, r, s);
+    match found {
+        CellAnswer::Cell(c) => FoundAnswer::Found(Found::Cell(c)),
+        CellAnswer::Refused(e) => FoundAnswer::Refused(e),
+    }
+}
+
+fn position_found(o: u8, r: u8, t: Triple) -> FoundAnswer
+    ensures { λ a. ⌜ saidFound a ≡ answerOf (Query.Cell o r t) ⌝ }
+{
+    let found = triple_to_s(o, r, t);
+    match found {
+        PositionAnswer::At(p) => FoundAnswer::Found(Found::Position(p)),
+        PositionAnswer::Refused(e) => FoundAnswer::Refused(e),
+    }
+}
+
+fn point_found(o: u8, r: u8, i: f64, j: f64) -> FoundAnswer
+    ensures { λ a. ⌜ saidFound a ≡ answerOf (Query.Point o r i j) ⌝ }
+{
+    if r > Triple::GREATEST_RESOLUTION {
+        return FoundAnswer::Refused(Refusal::Resolution);
+    }
+    if o > 5 {
+        return FoundAnswer::Refused(Refusal::Orientation);
+    }
+    let rounded = round_to_triple(i, j, r);
+    match rounded {
+        PointAnswer::At(t) => point_position(o, r, t),
+        PointAnswer::Refused(e) => FoundAnswer::Refused(e),
+    }
+}
+
+fn point_position(o: u8, r: u8, t: Triple) -> FoundAnswer
+    ensures { λ a. ⌜ saidFound a ≡ pointFound o r t ⌝ }
+{
+    let found = triple_to_s(o, r, t);
+    match found {
+        PositionAnswer::At(p) => FoundAnswer::Found(Found::Point(t, p)),
+        PositionAnswer::Refused(e) => FoundAnswer::Refused(e),
+    }
+}
+
+// The answer to one line, without LF.
+pub fn answer_line(line: &[u8], out: &mut [u8]) -> PrintAnswer
+    ensures { λ p. ⌜ (saidPrint p ≡ printOf (answerLine (now (line .entry))) (now (out .entry))) × (now (out .exit) ≡ afterPrint (answerLine (now (line .entry))) (now (out .entry))) ⌝ }
+{
+    let read = read_line(line);
+    match read {
+        QueryAnswer::Query(q) => print(answer(q), out),
+        QueryAnswer::Refused(e) => print(FoundAnswer::Refused(e), out),
+    }
+}

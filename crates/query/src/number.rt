@@ -1,0 +1,161 @@
+// The numbers of a query line, each a word of bytes.
+ghost use mathlib.Core.Path.{_≡_};
+ghost use Prim.Native.Nat.{_<_, _≤_};
+ghost use lib.IntN.{pos, negℤ};
+ghost use lib.Ieee.{ofBits, binary64};
+ghost use Rattle.query.specs.Numbers.{digitOf, upTo, u8 as u8Of, u64 as u64Of, i32 as i32Of, f64 as f64Of};
+ghost use Rattle.query.specs.Words.{digitsUpTo};
+ghost use Rattle.query.specs.Answers.{saidByte, saidNatural, saidInteger, saidFloat};
+
+// What reading a word as a number gives; `Unread` where it is none.
+pub(crate) enum ByteWord {
+    Byte(u8),
+    Unread,
+}
+
+pub(crate) enum NaturalWord {
+    Natural(u64),
+    Unread,
+}
+
+pub(crate) enum IntegerWord {
+    Integer(i32),
+    Unread,
+}
+
+pub(crate) enum FloatWord {
+    Float(f64),
+    Unread,
+}
+
+// What a byte stands for, 0 to 9 and A to F; 16 where it is no digit.
+fn digit(b: u8) -> u64
+    ensures { λ d. ⌜ d ≡ digitOf b ⌝ }
+{
+    let v = b as u64;
+    if v < 48 {
+        return 16;
+    }
+    if v <= 57 {
+        return v - 48;
+    }
+    if v < 65 {
+        return 16;
+    }
+    if v <= 70 {
+        return v - 55;
+    }
+    16
+}
+
+// The number that digits of a base write, where it is at most `most`. No digits write 0.
+fn digits(word: &[u8], base: u64, most: u64) -> NaturalWord
+    requires { ⌜ 0 < base ⌝ }
+    ensures { λ r. ⌜ saidNatural r ≡ digitsUpTo base most 0 (now (word .entry)) ⌝ }
+{
+    // A value above this, with one more digit, is above the most.
+    let before = most / base;
+    let mut value: u64 = 0;
+    let mut i: usize = 0;
+    while i < word.len() {
+        let d = digit(word[i]);
+        if d >= base {
+            return NaturalWord::Unread;
+        }
+        if value > before {
+            return NaturalWord::Unread;
+        }
+        let shifted = value * base;
+        if d > most - shifted {
+            return NaturalWord::Unread;
+        }
+        value = shifted + d;
+        i += 1;
+    }
+    NaturalWord::Natural(value)
+}
+
+// A decimal of at most `most`, without leading zeros.
+fn up_to(word: &[u8], most: u64) -> NaturalWord
+    ensures { λ r. ⌜ saidNatural r ≡ upTo most (now (word .entry)) ⌝ }
+{
+    if word.len() == 0 {
+        return NaturalWord::Unread;
+    }
+    if word.len() == 1 {
+        return digits(word, 10, most);
+    }
+    if word[0] == 48 {
+        return NaturalWord::Unread;
+    }
+    digits(word, 10, most)
+}
+
+pub(crate) fn byte(word: &[u8]) -> ByteWord
+    ensures { λ r. ⌜ saidByte r ≡ u8Of (now (word .entry)) ⌝ }
+{
+    let NaturalWord::Natural(n) = up_to(word, 255) else {
+        return ByteWord::Unread;
+    };
+    ByteWord::Byte(n as u8)
+}
+
+pub(crate) fn natural(word: &[u8]) -> NaturalWord
+    ensures { λ r. ⌜ saidNatural r ≡ u64Of (now (word .entry)) ⌝ }
+{
+    up_to(word, 18446744073709551615)
+}
+
+fn negated(n: u64) -> i32
+    requires { ⌜ n ≤ 2147483648 ⌝ }
+    ensures { λ z. ⌜ z ≡ negℤ (pos n) ⌝ }
+{
+    let v = n as i64;
+    (0 - v) as i32
+}
+
+// A minus sign has a number after it that is not 0.
+pub(crate) fn integer(word: &[u8]) -> IntegerWord
+    ensures { λ r. ⌜ saidInteger r ≡ i32Of (now (word .entry)) ⌝ }
+{
+    if word.len() == 0 {
+        return IntegerWord::Unread;
+    }
+    if word[0] == 45 {
+        let NaturalWord::Natural(n) = up_to(&word[1..], 2147483648) else {
+            return IntegerWord::Unread;
+        };
+        if n == 0 {
+            return IntegerWord::Unread;
+        }
+        return IntegerWord::Integer(negated(n));
+    }
+    let NaturalWord::Natural(n) = up_to(word, 2147483647) else {
+        return IntegerWord::Unread;
+    };
+    IntegerWord::Integer(n as i32)
+}
+
+// The float of a pattern. Every pattern of a NaN gives the one NaN.
+fn of_pattern(bits: u64) -> f64
+    ensures { λ x. ⌜ x ≡ ofBits binary64 bits ⌝ }
+{
+    if bits % 0x8000_0000_0000_0000 > 0x7ff0_0000_0000_0000 {
+        0.0 / 0.0
+    } else {
+        f64::from_bits(bits)
+    }
+}
+
+// Sixteen digits of a pattern.
+pub(crate) fn float(word: &[u8]) -> FloatWord
+    ensures { λ r. ⌜ saidFloat r ≡ f64Of (now (word .entry)) ⌝ }
+{
+    if word.len() != 16 {
+        return FloatWord::Unread;
+    }
+    let NaturalWord::Natural(bits) = digits(word, 16, 18446744073709551615) else {
+        return FloatWord::Unread;
+    };
+    FloatWord::Float(of_pattern(bits))
+}

@@ -1,0 +1,164 @@
+/* Calls each function of the library on the worked examples of the requirements. A line is a call and
+ * what it gives: the values, or `!` and the number of the refusal. */
+#include <inttypes.h>
+#include <stdio.h>
+#include <string.h>
+
+#include "haspbarley.h"
+
+static void show_i32(uint8_t status, const int32_t *values, size_t count)
+{
+    if (status != HB_OK) {
+        printf(" ! %d\n", status);
+        return;
+    }
+    for (size_t k = 0; k < count; k++)
+        printf(" %" PRId32, values[k]);
+    printf("\n");
+}
+
+static void cell(uint8_t orientation, uint8_t resolution, uint64_t s)
+{
+    int32_t out[4] = {0};
+    printf("cell %d %d %" PRIu64 ":", orientation, resolution, s);
+    show_i32(hb_cell(orientation, resolution, s, out, 4), out, 4);
+}
+
+static void position(uint8_t orientation, uint8_t resolution, int32_t x, int32_t y, int32_t z)
+{
+    uint64_t out[2] = {0};
+    printf("position %d %d %" PRId32 " %" PRId32 " %" PRId32 ":", orientation, resolution, x, y, z);
+    uint8_t status = hb_position(orientation, resolution, x, y, z, out, 2);
+    if (status != HB_OK)
+        printf(" ! %d\n", status);
+    else
+        printf(" %" PRIu64 " %" PRIu64 "\n", out[0], out[1]);
+}
+
+/* Down the curve of UV by digits, from the node of its axiom; then the node of the cell that is
+ * reached, which is the same. */
+static void walk(const uint8_t *digits, uint8_t count)
+{
+    int32_t numbers[6] = {0};
+    double places[2] = {0.0, 0.0};
+    for (uint8_t k = 0; k < count; k++) {
+        uint8_t status = hb_child((uint64_t)numbers[4], (uint8_t)numbers[5], places[0], places[1], digits[k],
+                                  (uint8_t)(k + 1), 0, numbers, 6, places, 2);
+        printf("child %d at %d:", digits[k], k + 1);
+        show_i32(status, numbers, 4);
+    }
+    int32_t node[2] = {0};
+    double at[2] = {0.0, 0.0};
+    printf("node of that cell:");
+    show_i32(hb_node(0, count, numbers[0], numbers[1], numbers[2], node, 2, at, 2), node, 2);
+    int same = node[0] == numbers[4] && node[1] == numbers[5] && at[0] == places[0] && at[1] == places[1];
+    printf("the walk's own: %s\n", same ? "yes" : "no");
+}
+
+static void line(const char *query)
+{
+    uint8_t text[107];
+    uint64_t length[1] = {0};
+    uint8_t status = hb_line((const uint8_t *)query, strlen(query), text, sizeof text, length, 1);
+    printf("line %s: %d, %.*s\n", query, status, (int)length[0], (const char *)text);
+}
+
+static void point(double i, double j, uint8_t resolution)
+{
+    int32_t out[3] = {0};
+    printf("point %.10g %.10g %d:", i, j, resolution);
+    show_i32(hb_point(i, j, resolution, out, 3), out, 3);
+}
+
+static void corner_sum(int32_t x, int32_t y, int32_t z)
+{
+    int64_t out[2] = {0};
+    printf("corner sum %" PRId32 " %" PRId32 " %" PRId32 ":", x, y, z);
+    uint8_t status = hb_corner_sum(x, y, z, out, 2);
+    if (status != HB_OK)
+        printf(" ! %d\n", status);
+    else
+        printf(" %" PRId64 " %" PRId64 "\n", out[0], out[1]);
+}
+
+static void triple(int64_t a, int64_t b)
+{
+    int32_t out[3] = {0};
+    printf("triple %" PRId64 " %" PRId64 ":", a, b);
+    show_i32(hb_triple(a, b, out, 3), out, 3);
+}
+
+/* The code of a position, and what it says when it is read back. */
+static void code(uint8_t orientation, uint8_t resolution, uint64_t s)
+{
+    uint8_t bytes[9];
+    uint64_t count[1];
+    uint64_t out[4];
+    printf("code %d %d %" PRIu64 ":", orientation, resolution, s);
+    uint8_t status = hb_code_write(orientation, resolution, s, bytes, 9, count, 1);
+    if (status != HB_OK) {
+        printf(" ! %d\n", status);
+        return;
+    }
+    for (uint64_t k = 0; k < count[0]; k++)
+        printf(" %02X", bytes[k]);
+    status = hb_code_read(bytes, (size_t)count[0], out, 4);
+    if (status != HB_OK)
+        printf(" ! %d\n", status);
+    else
+        printf(" reads %" PRIu64 " %" PRIu64 " %" PRIu64 " %" PRIu64 "\n", out[0], out[1], out[2], out[3]);
+}
+
+/* A refused call leaves what it was lent as it was. */
+static void refused(void)
+{
+    int32_t out[4] = {7, 7, 7, 7};
+    uint8_t status = hb_cell(0, 1, 2, out, 3);
+    printf("cell 0 1 2 into three places: ! %d, left %d %d %d %d\n", status, out[0], out[1], out[2], out[3]);
+
+    uint8_t bytes[2] = {7, 7};
+    uint64_t count[1] = {7};
+    status = hb_code_write(0, 2, 6, bytes, 2, count, 0);
+    printf("code 0 2 6 with no place for the count: ! %d, left %d %d\n", status, bytes[0], bytes[1]);
+    status = hb_code_write(0, 2, 6, bytes, 1, count, 1);
+    printf("code 0 2 6 into one byte: ! %d, left %d, count left %" PRIu64 "\n", status, bytes[0], count[0]);
+    uint64_t read[4] = {7, 7, 7, 7};
+    status = hb_code_read(bytes, 0, read, 4);
+    printf("read no byte: ! %d, left %" PRIu64 "\n", status, read[0]);
+}
+
+int main(void)
+{
+    for (uint64_t s = 0; s < 4; s++)
+        cell(0, 1, s);
+    for (uint64_t s = 0; s < 4; s++)
+        cell(2, 1, s);
+    for (uint64_t s = 0; s < 4; s++)
+        cell(5, 1, s);
+    cell(0, 2, 3);
+    cell(0, 2, 5);
+    cell(0, 30, (UINT64_C(1) << 60) - 1);
+    cell(0, 30, UINT64_C(1) << 60);
+    cell(0, 31, 0);
+    cell(6, 1, 0);
+    position(0, 2, -1, 2, 0);
+    position(1, 2, 0, 3, -3);
+    position(0, 1, 0, 2, -2);
+    position(0, 1, 1, 1, 1);
+    walk((const uint8_t[]){1, 2}, 2);
+    line("P 0 1 2");
+    line("P 0 1 4");
+    line("p 0 1 4");
+    triple(20, -16);
+    triple(14, -4);
+    corner_sum(-1, 1, 0);
+    corner_sum(1, 1, 1);
+    point(2.0, 3.0, 1);
+    point(-0.25, 0.5, 1);
+    point(4294967296.0, 0.0, 1);
+    code(0, 2, 6);
+    code(5, 1, 3);
+    code(5, 1, 4);
+    refused();
+    return 0;
+}

@@ -1,0 +1,234 @@
+//! Calls each function of the library on the worked examples of the requirements. A line is a call and
+//! what it gives: the values, or `!` and the number of the refusal.
+
+mod ffi {
+    extern "C" {
+        pub fn hb_cell(orientation: u8, resolution: u8, s: u64, out: *mut i32, out_len: usize) -> u8;
+        pub fn hb_position(orientation: u8, resolution: u8, x: i32, y: i32, z: i32, out: *mut u64, out_len: usize) -> u8;
+        pub fn hb_node(
+            orientation: u8,
+            resolution: u8,
+            x: i32,
+            y: i32,
+            z: i32,
+            numbers: *mut i32,
+            numbers_len: usize,
+            places: *mut f64,
+            places_len: usize,
+        ) -> u8;
+        pub fn hb_child(
+            motif: u64,
+            flip: u8,
+            a: f64,
+            b: f64,
+            digit: u8,
+            resolution: u8,
+            orientation: u8,
+            numbers: *mut i32,
+            numbers_len: usize,
+            places: *mut f64,
+            places_len: usize,
+        ) -> u8;
+        pub fn hb_line(
+            line: *const u8,
+            line_len: usize,
+            text: *mut u8,
+            text_len: usize,
+            out: *mut u64,
+            out_len: usize,
+        ) -> u8;
+        pub fn hb_point(i: f64, j: f64, resolution: u8, out: *mut i32, out_len: usize) -> u8;
+        pub fn hb_corner_sum(x: i32, y: i32, z: i32, out: *mut i64, out_len: usize) -> u8;
+        pub fn hb_triple(a: i64, b: i64, out: *mut i32, out_len: usize) -> u8;
+        pub fn hb_code_write(
+            orientation: u8,
+            resolution: u8,
+            s: u64,
+            bytes: *mut u8,
+            bytes_len: usize,
+            out: *mut u64,
+            out_len: usize,
+        ) -> u8;
+        pub fn hb_code_read(bytes: *const u8, bytes_len: usize, out: *mut u64, out_len: usize) -> u8;
+    }
+}
+
+/// The library as Rust has it: a slice is what it says it is, so each call is safe.
+mod haspbarley {
+    use super::ffi;
+
+    pub fn cell(orientation: u8, resolution: u8, s: u64, out: &mut [i32]) -> u8 {
+        unsafe { ffi::hb_cell(orientation, resolution, s, out.as_mut_ptr(), out.len()) }
+    }
+
+    pub fn position(orientation: u8, resolution: u8, [x, y, z]: [i32; 3], out: &mut [u64]) -> u8 {
+        unsafe { ffi::hb_position(orientation, resolution, x, y, z, out.as_mut_ptr(), out.len()) }
+    }
+
+    pub fn node(orientation: u8, resolution: u8, [x, y, z]: [i32; 3], numbers: &mut [i32], places: &mut [f64]) -> u8 {
+        let (n, p) = (numbers.len(), places.len());
+        unsafe { ffi::hb_node(orientation, resolution, x, y, z, numbers.as_mut_ptr(), n, places.as_mut_ptr(), p) }
+    }
+
+    pub fn child(
+        (motif, flip, [a, b]): (u64, u8, [f64; 2]),
+        digit: u8,
+        resolution: u8,
+        orientation: u8,
+        numbers: &mut [i32],
+        places: &mut [f64],
+    ) -> u8 {
+        let (n, p) = (numbers.len(), places.len());
+        let (numbers, places) = (numbers.as_mut_ptr(), places.as_mut_ptr());
+        unsafe { ffi::hb_child(motif, flip, a, b, digit, resolution, orientation, numbers, n, places, p) }
+    }
+
+    pub fn line(line: &[u8], text: &mut [u8], out: &mut [u64]) -> u8 {
+        unsafe { ffi::hb_line(line.as_ptr(), line.len(), text.as_mut_ptr(), text.len(), out.as_mut_ptr(), out.len()) }
+    }
+
+    pub fn point(i: f64, j: f64, resolution: u8, out: &mut [i32]) -> u8 {
+        unsafe { ffi::hb_point(i, j, resolution, out.as_mut_ptr(), out.len()) }
+    }
+
+    pub fn corner_sum(x: i32, y: i32, z: i32, out: &mut [i64]) -> u8 {
+        unsafe { ffi::hb_corner_sum(x, y, z, out.as_mut_ptr(), out.len()) }
+    }
+
+    pub fn triple(a: i64, b: i64, out: &mut [i32]) -> u8 {
+        unsafe { ffi::hb_triple(a, b, out.as_mut_ptr(), out.len()) }
+    }
+
+    pub fn code_write(orientation: u8, resolution: u8, s: u64, bytes: &mut [u8], out: &mut [u64]) -> u8 {
+        unsafe {
+            ffi::hb_code_write(orientation, resolution, s, bytes.as_mut_ptr(), bytes.len(), out.as_mut_ptr(), out.len())
+        }
+    }
+
+    pub fn code_read(bytes: &[u8], out: &mut [u64]) -> u8 {
+        unsafe { ffi::hb_code_read(bytes.as_ptr(), bytes.len(), out.as_mut_ptr(), out.len()) }
+    }
+}
+
+fn gives<T: ToString>(status: u8, values: &[T]) -> String {
+    match status {
+        0 => values.iter().map(T::to_string).collect::<Vec<_>>().join(" "),
+        refusal => format!("! {refusal}"),
+    }
+}
+
+fn cell(orientation: u8, resolution: u8, s: u64) {
+    let mut out = [0; 4];
+    let status = haspbarley::cell(orientation, resolution, s, &mut out);
+    println!("cell {orientation} {resolution} {s}: {}", gives(status, &out));
+}
+
+fn position(orientation: u8, resolution: u8, [x, y, z]: [i32; 3]) {
+    let mut out = [0; 2];
+    let status = haspbarley::position(orientation, resolution, [x, y, z], &mut out);
+    println!("position {orientation} {resolution} {x} {y} {z}: {}", gives(status, &out));
+}
+
+/// Down the curve of UV by digits, from the node of its axiom; then the node of the cell that is
+/// reached, which is the same.
+fn walk(digits: &[u8]) {
+    let (mut numbers, mut places) = ([0; 6], [0.0; 2]);
+    for (k, &digit) in digits.iter().enumerate() {
+        let from = (numbers[4] as u64, numbers[5] as u8, places);
+        let status = haspbarley::child(from, digit, k as u8 + 1, 0, &mut numbers, &mut places);
+        println!("child {digit} at {}: {}", k + 1, gives(status, &numbers[..4]));
+    }
+    let (mut node, mut at) = ([0; 2], [0.0; 2]);
+    let cell = [numbers[0], numbers[1], numbers[2]];
+    let status = haspbarley::node(0, digits.len() as u8, cell, &mut node, &mut at);
+    println!("node of that cell: {}", gives(status, &node));
+    let same = node == numbers[4..] && at == places;
+    println!("the walk's own: {}", if same { "yes" } else { "no" });
+}
+
+fn line(query: &str) {
+    let (mut text, mut length) = ([0; 107], [0]);
+    let status = haspbarley::line(query.as_bytes(), &mut text, &mut length);
+    println!("line {query}: {status}, {}", String::from_utf8_lossy(&text[..length[0] as usize]));
+}
+
+fn point(i: f64, j: f64, resolution: u8) {
+    let mut out = [0; 3];
+    let status = haspbarley::point(i, j, resolution, &mut out);
+    println!("point {i} {j} {resolution}: {}", gives(status, &out));
+}
+
+fn corner_sum(x: i32, y: i32, z: i32) {
+    let mut out = [0; 2];
+    let status = haspbarley::corner_sum(x, y, z, &mut out);
+    println!("corner sum {x} {y} {z}: {}", gives(status, &out));
+}
+
+fn triple(a: i64, b: i64) {
+    let mut out = [0; 3];
+    let status = haspbarley::triple(a, b, &mut out);
+    println!("triple {a} {b}: {}", gives(status, &out));
+}
+
+/// The code of a position, and what it says when it is read back.
+fn code(orientation: u8, resolution: u8, s: u64) {
+    let (mut bytes, mut count, mut out) = ([0; 9], [0], [0; 4]);
+    let status = haspbarley::code_write(orientation, resolution, s, &mut bytes, &mut count);
+    let code = &bytes[..count[0] as usize];
+    let written: Vec<String> = code.iter().map(|b| format!("{b:02X}")).collect();
+    print!("code {orientation} {resolution} {s}: {}", gives(status, &written));
+    if status == 0 {
+        let status = haspbarley::code_read(code, &mut out);
+        print!(" reads {}", gives(status, &out));
+    }
+    println!();
+}
+
+/// A refused call leaves what it was lent as it was.
+fn refused() {
+    let mut out = [7; 4];
+    let status = haspbarley::cell(0, 1, 2, &mut out[..3]);
+    println!("cell 0 1 2 into three places: ! {status}, left {}", gives(0, &out));
+
+    let (mut bytes, mut count) = ([7; 2], [7]);
+    let status = haspbarley::code_write(0, 2, 6, &mut bytes, &mut []);
+    println!("code 0 2 6 with no place for the count: ! {status}, left {}", gives(0, &bytes));
+    let status = haspbarley::code_write(0, 2, 6, &mut bytes[..1], &mut count);
+    println!("code 0 2 6 into one byte: ! {status}, left {}, count left {}", bytes[0], count[0]);
+    let mut read = [7; 4];
+    let status = haspbarley::code_read(&[], &mut read);
+    println!("read no byte: ! {status}, left {}", read[0]);
+}
+
+fn main() {
+    for orientation in [0, 2, 5] {
+        for s in 0..4 {
+            cell(orientation, 1, s);
+        }
+    }
+    cell(0, 2, 3);
+    cell(0, 2, 5);
+    cell(0, 30, (1 << 60) - 1);
+    cell(0, 30, 1 << 60);
+    cell(0, 31, 0);
+    cell(6, 1, 0);
+    position(0, 2, [-1, 2, 0]);
+    position(1, 2, [0, 3, -3]);
+    position(0, 1, [0, 2, -2]);
+    position(0, 1, [1, 1, 1]);
+    walk(&[1, 2]);
+    line("P 0 1 2");
+    line("P 0 1 4");
+    line("p 0 1 4");
+    triple(20, -16);
+    triple(14, -4);
+    corner_sum(-1, 1, 0);
+    corner_sum(1, 1, 1);
+    point(2.0, 3.0, 1);
+    point(-0.25, 0.5, 1);
+    point(4294967296.0, 0.0, 1);
+    code(0, 2, 6);
+    code(5, 1, 3);
+    code(5, 1, 4);
+    refused();
+}

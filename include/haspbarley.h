@@ -1,0 +1,100 @@
+/* Haspbarley: the lattice walk of A5, as a static library.
+ *
+ * Every function takes every input. It returns HB_OK and writes its values at the front of the array
+ * that it is lent, in the order in which they are listed, or it returns the number of a refusal and
+ * leaves the array as it was. Elements behind the values are never touched. Refusals are tested in
+ * the order in which a function lists them, too short an array (HB_ROOM) always last.
+ *
+ * An array is passed as a pointer and its length in elements. The pointer must be good for that many
+ * elements and must not be NULL, not even where the length is 0. Two arrays of one call must not
+ * overlap. No function keeps a pointer, allocates, or has any state: calls may be made from any
+ * thread.
+ *
+ * orientation  0 to 5: UV, VU, UW, WU, VW, WV
+ * resolution   0 to 30
+ * s            a position, below 4^resolution
+ * x, y, z      a cell's triple
+ * flavor       0 to 3
+ */
+#ifndef HASPBARLEY_H
+#define HASPBARLEY_H
+
+#include <stddef.h>
+#include <stdint.h>
+
+#ifdef __cplusplus
+extern "C" {
+#endif
+
+enum {
+    HB_OK = 0,
+    HB_RESOLUTION = 1,  /* resolution above 30 */
+    HB_ORIENTATION = 2, /* orientation above 5 */
+    HB_POSITION = 3,    /* s at or above 4^resolution */
+    HB_SUM = 4,         /* x + y + z neither 0 nor 1 */
+    HB_BOUNDS = 5,      /* a cell out of bounds */
+    HB_PAIR = 6,        /* a corner sum beyond 2^34 in size, or that no triple of three int32_t has */
+    HB_NODE = 7,        /* a node that is not good */
+    HB_DIGIT = 8,       /* digit above 3 */
+    HB_POINT = 9,       /* a coordinate that is NaN, infinite or beyond 2^31 in size */
+    HB_ROOM = 10,       /* an array shorter than what is to be written to it */
+    HB_CODE = 11        /* a code that is empty or cut short */
+};
+
+/* The cell that the position s names.
+ * Values: x y z flavor (4). Refusals: 1, 2, 3, 10. */
+uint8_t hb_cell(uint8_t orientation, uint8_t resolution, uint64_t s, int32_t *out, size_t out_len);
+
+/* The position that names a cell.
+ * Values: s flavor (2). Refusals: 1, 2, 4, 5, 10. */
+uint8_t hb_position(uint8_t orientation, uint8_t resolution, int32_t x, int32_t y, int32_t z, uint64_t *out,
+                    size_t out_len);
+
+/* The node below a cell, from which child steps go on.
+ * Values: motif flip (2) to numbers, and the node's two positions (2) to places; both or, on a refusal,
+ * neither. Refusals: 1, 2, 4, 5, 10. */
+uint8_t hb_node(uint8_t orientation, uint8_t resolution, int32_t x, int32_t y, int32_t z, int32_t *numbers,
+                size_t numbers_len, double *places, size_t places_len);
+
+/* The child step from a node by a digit of the curve, to the child's resolution. A node is good whose
+ * motif is at most 13, its flip 0 or 1, and each position a whole multiple of 4, at most 2^36 in size,
+ * and not negative zero; the node of UV's and VU's wedge at resolution 0 is 0 0 0.0 0.0, of UW's and
+ * WU's 2 0 0.0 0.0, and of VW's and WV's 1 0 0.0 0.0.
+ * Values: x y z flavor motif flip (6) to numbers, and the two positions of the node below the child (2)
+ * to places; both or, on a refusal, neither. Refusals: 1 (also at resolution 0), 2, 7, 8, 5, 10. */
+uint8_t hb_child(uint64_t motif, uint8_t flip, double a, double b, uint8_t digit, uint8_t resolution,
+                 uint8_t orientation, int32_t *numbers, size_t numbers_len, double *places, size_t places_len);
+
+/* The triple of the cell that the point (i, j) falls in, brought into bounds.
+ * Values: x y z (3). Refusals: 1, 9, 10. */
+uint8_t hb_point(double i, double j, uint8_t resolution, int32_t *out, size_t out_len);
+
+/* The corner sum of a triple's cell, at whatever resolution.
+ * Values: a b (2). Refusals: 4, 10. */
+uint8_t hb_corner_sum(int32_t x, int32_t y, int32_t z, int64_t *out, size_t out_len);
+
+/* The triple whose cell has the corner sum (a, b).
+ * Values: x y z (3). Refusals: 6, 10. */
+uint8_t hb_triple(int64_t a, int64_t b, int32_t *out, size_t out_len);
+
+/* Writes the code of a position, 1 + ceil(resolution / 4) bytes, at most 9.
+ * Values: the code to bytes, and the count of its bytes (1) to out; both or, on a refusal, neither.
+ * Refusals: 1, 2, 3, 10. */
+uint8_t hb_code_write(uint8_t orientation, uint8_t resolution, uint64_t s, uint8_t *bytes, size_t bytes_len,
+                      uint64_t *out, size_t out_len);
+
+/* Reads the code at the front of some bytes. Spare bits and later bytes are not looked at.
+ * Values: orientation resolution s count (4), count being how many bytes the code takes.
+ * Refusals: 11 where there is no byte, 1, 2, 11 where the code is cut short, 10. */
+uint8_t hb_code_read(const uint8_t *bytes, size_t bytes_len, uint64_t *out, size_t out_len);
+
+/* The answer to one query line as the program wedge prints it, without LF: at most 107 bytes. A line
+ * that is refused has an answer too, '!' and the refusal's number.
+ * Values: the answer to text, and its length (1) to out; both or, on a refusal, neither. Refusals: 10. */
+uint8_t hb_line(const uint8_t *line, size_t line_len, uint8_t *text, size_t text_len, uint64_t *out, size_t out_len);
+
+#ifdef __cplusplus
+}
+#endif
+
+#endif

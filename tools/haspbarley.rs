@@ -1,0 +1,65 @@
+// The library's functions for Rust: each answers its values, or the refusal's number.
+extern "C" {
+    fn hb_cell(o: u8, r: u8, s: u64, out: *mut i32, len: usize) -> u8;
+    fn hb_position(o: u8, r: u8, x: i32, y: i32, z: i32, out: *mut u64, len: usize) -> u8;
+    fn hb_point(i: f64, j: f64, r: u8, out: *mut i32, len: usize) -> u8;
+    fn hb_corner_sum(x: i32, y: i32, z: i32, out: *mut i64, len: usize) -> u8;
+    fn hb_triple(a: i64, b: i64, out: *mut i32, len: usize) -> u8;
+    fn hb_child(motif: u64, flip: u8, a: f64, b: f64, digit: u8, r: u8, o: u8, out_i: *mut i32, len_i: usize, out_f: *mut f64, len_f: usize) -> u8;
+    fn hb_node(o: u8, r: u8, x: i32, y: i32, z: i32, out_i: *mut i32, len_i: usize, out_f: *mut f64, len_f: usize) -> u8;
+}
+
+fn told<T>(status: u8, values: T) -> Result<T, u8> {
+    if status == 0 { Ok(values) } else { Err(status) }
+}
+
+// x y z flavor
+pub fn cell(o: u8, r: u8, s: u64) -> Result<[i32; 4], u8> {
+    let mut out = [0; 4];
+    told(unsafe { hb_cell(o, r, s, out.as_mut_ptr(), 4) }, out)
+}
+
+// s flavor
+pub fn position(o: u8, r: u8, t: [i32; 3]) -> Result<[u64; 2], u8> {
+    let mut out = [0; 2];
+    told(unsafe { hb_position(o, r, t[0], t[1], t[2], out.as_mut_ptr(), 2) }, out)
+}
+
+// x y z
+pub fn point(i: f64, j: f64, r: u8) -> Result<[i32; 3], u8> {
+    let mut out = [0; 3];
+    told(unsafe { hb_point(i, j, r, out.as_mut_ptr(), 3) }, out)
+}
+
+// a b
+pub fn corner_sum(t: [i32; 3]) -> Result<[i64; 2], u8> {
+    let mut out = [0; 2];
+    told(unsafe { hb_corner_sum(t[0], t[1], t[2], out.as_mut_ptr(), 2) }, out)
+}
+
+// x y z
+pub fn triple(a: i64, b: i64) -> Result<[i32; 3], u8> {
+    let mut out = [0; 3];
+    told(unsafe { hb_triple(a, b, out.as_mut_ptr(), 3) }, out)
+}
+
+#[derive(Clone, Copy, Debug, PartialEq)]
+pub struct Node {
+    pub motif: u64,
+    pub flip: u8,
+    pub a: f64,
+    pub b: f64,
+}
+
+// x y z flavor, and the node below
+pub fn child(n: Node, digit: u8, r: u8, o: u8) -> Result<([i32; 4], Node), u8> {
+    let (mut i, mut f) = ([0i32; 6], [0f64; 2]);
+    let status = unsafe { hb_child(n.motif, n.flip, n.a, n.b, digit, r, o, i.as_mut_ptr(), 6, f.as_mut_ptr(), 2) };
+    told(status, ([i[0], i[1], i[2], i[3]], Node { motif: i[4] as u64, flip: i[5] as u8, a: f[0], b: f[1] }))
+}
+
+pub fn node(o: u8, r: u8, t: [i32; 3]) -> Result<Node, u8> {
+    let (mut i, mut f) = ([0i32; 2], [0f64; 2]);
+    let status = unsafe { hb_node(o, r, t[0], t[1], t[2], i.as_mut_ptr(), 2, f.as_mut_ptr(), 2) };
+    told(status, Node { motif: i[0] as u64, flip: i[1] as u8, a: f[0], b: f[1] })
+}
