@@ -4,26 +4,16 @@
 mod coordinate_systems;
 mod haspbarley;
 mod lattice;
+mod shared;
 
 use lattice::lsystem::{s_to_cell, triple_to_s_lattice};
-use lattice::types::{Orientation, Triple};
+use lattice::types::Triple;
+use shared::{Random, ORIENTATIONS};
 use std::hint::black_box;
 use std::time::Instant;
 
-const ORIENTATIONS: [Orientation; 6] = [Orientation::UV, Orientation::VU, Orientation::UW, Orientation::WU, Orientation::VW, Orientation::WV];
 const CALLS: usize = 200_000;
 const ROUNDS: usize = 15;
-
-struct Random(u64);
-
-impl Random {
-    fn next(&mut self) -> u64 {
-        self.0 ^= self.0 << 13;
-        self.0 ^= self.0 >> 7;
-        self.0 ^= self.0 << 17;
-        self.0
-    }
-}
 
 // The best time of a round, in nanoseconds a call; the rounds of the two alternate.
 fn best(mut ours: impl FnMut() -> u64, mut rust: impl FnMut() -> u64) -> (f64, f64) {

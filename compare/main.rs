@@ -5,59 +5,17 @@
 mod coordinate_systems;
 mod haspbarley;
 mod lattice;
+mod shared;
 
 use coordinate_systems::IJ;
 use haspbarley::Node;
 use lattice::curve::round_to_triple;
-use lattice::lsystem::{ab_to_triple, curve_child, s_to_cell, triple_to_ab, triple_to_curve_node, triple_to_s_lattice, CurveNode};
-use lattice::triple::{triple_flavor, triple_in_bounds};
-use lattice::types::{Orientation, Triple};
+use lattice::lsystem::{ab_to_triple, curve_child, s_to_cell, triple_to_ab, triple_to_curve_node, CurveNode};
+use lattice::triple::triple_in_bounds;
+use lattice::types::Triple;
+use shared::{Part, Random, ORIENTATIONS};
 
-const ORIENTATIONS: [Orientation; 6] = [Orientation::UV, Orientation::VU, Orientation::UW, Orientation::WU, Orientation::VW, Orientation::WV];
 const MANY: u64 = 10_000_000;
-
-struct Random(u64);
-
-impl Random {
-    fn next(&mut self) -> u64 {
-        self.0 ^= self.0 << 13;
-        self.0 ^= self.0 >> 7;
-        self.0 ^= self.0 << 17;
-        self.0
-    }
-
-    fn below(&mut self, n: u64) -> u64 {
-        self.next() % n
-    }
-}
-
-// One part of the comparison: how much was compared, and how much differed.
-struct Part {
-    name: &'static str,
-    compared: u64,
-    differed: u64,
-}
-
-impl Part {
-    fn new(name: &'static str) -> Part {
-        Part { name, compared: 0, differed: 0 }
-    }
-
-    fn same<T: PartialEq + std::fmt::Debug>(&mut self, asked: std::fmt::Arguments, ours: T, rust: T) {
-        self.compared += 1;
-        if ours != rust {
-            self.differed += 1;
-            if self.differed == 1 {
-                println!("  {}: {asked}: the library {ours:?}, the Rust {rust:?}", self.name);
-            }
-        }
-    }
-
-    fn done(self, all: &mut u64) {
-        println!("{:<34} {:>10} compared, {} differed", self.name, self.compared, self.differed);
-        *all += self.differed;
-    }
-}
 
 fn at(t: &Triple) -> [i32; 3] {
     [t.x, t.y, t.z]
@@ -70,9 +28,7 @@ fn cell(part: &mut Part, o: usize, r: u8, s: u64) -> Triple {
 }
 
 fn position(part: &mut Part, o: usize, r: u8, t: &Triple) {
-    // at resolution 0 the Rust's lookup goes through the leaf table: its one cell has position 0
-    let s = if r == 0 { 0 } else { triple_to_s_lattice(t, r as usize, ORIENTATIONS[o]) };
-    let flavor = triple_flavor(t, ((1i64 << r) - 1) as i32);
+    let (s, flavor) = shared::position(o, r, t);
     part.same(format_args!("position {o} {r} {t:?}"), haspbarley::position(o as u8, r, at(t)), Ok([s, flavor as u64]));
 }
 

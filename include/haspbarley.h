@@ -28,7 +28,7 @@ extern "C" {
 
 enum {
     HB_OK = 0,
-    HB_RESOLUTION = 1,  /* resolution above 30 */
+    HB_RESOLUTION = 1,  /* resolution or passes above 30, or 0 where a function says so */
     HB_ORIENTATION = 2, /* orientation above 5 */
     HB_POSITION = 3,    /* s at or above 4^resolution */
     HB_SUM = 4,         /* x + y + z neither 0 nor 1 */
@@ -38,7 +38,8 @@ enum {
     HB_DIGIT = 8,       /* digit above 3 */
     HB_POINT = 9,       /* a coordinate that is NaN, infinite or beyond 2^31 in size */
     HB_ROOM = 10,       /* an array shorter than what is to be written to it */
-    HB_CODE = 11        /* a code that is empty or cut short */
+    HB_CODE = 11,       /* a code that is empty or cut short */
+    HB_TABLE = 22       /* a state count, a token or an entry of a table that is not good */
 };
 
 /* The cell that the position s names.
@@ -92,6 +93,23 @@ uint8_t hb_code_read(const uint8_t *bytes, size_t bytes_len, uint64_t *out, size
  * that is refused has an answer too, '!' and the refusal's number.
  * Values: the answer to text, and its length (1) to out; both or, on a refusal, neither. Refusals: 10. */
 uint8_t hb_line(const uint8_t *line, size_t line_len, uint8_t *text, size_t text_len, uint64_t *out, size_t out_len);
+
+/* The cell at place s, below 4^passes, of what a table gives from a token after 1 to 30 passes. The
+ * table has 41 numbers for each state, in state order: 4 child states, 4 offset pairs, 4 leaf sums
+ * (pairs), 4 flavors, and 17 that a descent does not look at. It may be anyone's: states has to be a
+ * multiple of 4 from 4 to 32 and no more than the table holds, token below half of it, and in every
+ * state each child state below states, each flavor 0 to 3, each offset and leaf sum at most 4096 in
+ * size; all else is 22.
+ * Values: a b flavor (3), the cell's corner sum and flavor. Refusals: 1 (also at 0 passes), 22, 3, 10. */
+uint8_t hb_descend(const int32_t *table, size_t table_len, uint64_t states, uint8_t passes, uint64_t token, uint64_t s,
+                   int64_t *out, size_t out_len);
+
+/* Compiles a grammar's text: one to eight lines, each a motif letter, its rule and its draw, set apart
+ * by single spaces and ended by LF. A table of 32 states, 1312 numbers, has room for every text.
+ * Values: each state's 41 numbers to table, in state order, and the number of states (1) to out; both or,
+ * on a refusal, neither. The one exception: of a text that is refused by 12 to 20, out has the number of
+ * the line at fault, from 1, or 0 of the empty text. Refusals: 12 to 20, 10. */
+uint8_t hb_compile(const uint8_t *text, size_t text_len, int32_t *table, size_t table_len, uint64_t *out, size_t out_len);
 
 #ifdef __cplusplus
 }

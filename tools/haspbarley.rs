@@ -7,6 +7,9 @@ extern "C" {
     fn hb_triple(a: i64, b: i64, out: *mut i32, len: usize) -> u8;
     fn hb_child(motif: u64, flip: u8, a: f64, b: f64, digit: u8, r: u8, o: u8, out_i: *mut i32, len_i: usize, out_f: *mut f64, len_f: usize) -> u8;
     fn hb_node(o: u8, r: u8, x: i32, y: i32, z: i32, out_i: *mut i32, len_i: usize, out_f: *mut f64, len_f: usize) -> u8;
+    fn hb_line(line: *const u8, line_len: usize, text: *mut u8, text_len: usize, out: *mut u64, len: usize) -> u8;
+    fn hb_descend(table: *const i32, table_len: usize, states: u64, passes: u8, token: u64, s: u64, out: *mut i64, len: usize) -> u8;
+    fn hb_compile(text: *const u8, text_len: usize, table: *mut i32, table_len: usize, out: *mut u64, len: usize) -> u8;
 }
 
 fn told<T>(status: u8, values: T) -> Result<T, u8> {
@@ -62,4 +65,26 @@ pub fn node(o: u8, r: u8, t: [i32; 3]) -> Result<Node, u8> {
     let (mut i, mut f) = ([0i32; 2], [0f64; 2]);
     let status = unsafe { hb_node(o, r, t[0], t[1], t[2], i.as_mut_ptr(), 2, f.as_mut_ptr(), 2) };
     told(status, Node { motif: i[0] as u64, flip: i[1] as u8, a: f[0], b: f[1] })
+}
+
+// The length of a line's answer, which is written to `text`.
+pub fn line(line: &[u8], text: &mut [u8]) -> Result<usize, u8> {
+    let mut out = [0; 1];
+    let status = unsafe { hb_line(line.as_ptr(), line.len(), text.as_mut_ptr(), text.len(), out.as_mut_ptr(), 1) };
+    told(status, out[0] as usize)
+}
+
+// a b flavor
+pub fn descend(table: &[i32], states: u64, passes: u8, token: u64, s: u64) -> Result<[i64; 3], u8> {
+    let mut out = [0; 3];
+    told(unsafe { hb_descend(table.as_ptr(), table.len(), states, passes, token, s, out.as_mut_ptr(), 3) }, out)
+}
+
+// The number of states, the table written; or the refusal's number, and with it the line at fault.
+pub fn compile(text: &[u8], table: &mut [i32]) -> Result<u64, (u8, u64)> {
+    let mut out = [0];
+    match unsafe { hb_compile(text.as_ptr(), text.len(), table.as_mut_ptr(), table.len(), out.as_mut_ptr(), 1) } {
+        0 => Ok(out[0]),
+        status => Err((status, out[0])),
+    }
 }

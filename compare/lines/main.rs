@@ -4,31 +4,13 @@
 // them, far outside, subnormal, negative zero), then each refusal by several bad lines.
 mod coordinate_systems;
 mod lattice;
+mod shared;
 
 use coordinate_systems::IJ;
 use lattice::curve::round_to_triple;
-use lattice::lsystem::{s_to_cell, triple_to_s_lattice};
-use lattice::triple::triple_flavor;
-use lattice::types::{Orientation, Triple};
-
-const ORIENTATIONS: [Orientation; 6] = [Orientation::UV, Orientation::VU, Orientation::UW, Orientation::WU, Orientation::VW, Orientation::WV];
-
-struct Random(u64);
-
-impl Random {
-    fn below(&mut self, n: u64) -> u64 {
-        self.0 ^= self.0 << 13;
-        self.0 ^= self.0 >> 7;
-        self.0 ^= self.0 << 17;
-        self.0 % n
-    }
-}
-
-fn position(o: usize, r: u8, t: &Triple) -> (u64, u8) {
-    // at resolution 0 the Rust's lookup goes through the leaf table: its one cell has position 0
-    let s = if r == 0 { 0 } else { triple_to_s_lattice(t, r as usize, ORIENTATIONS[o]) };
-    (s, triple_flavor(t, ((1i64 << r) - 1) as i32))
-}
+use lattice::lsystem::s_to_cell;
+use lattice::types::Triple;
+use shared::{position, Random, ORIENTATIONS};
 
 fn by_position(o: usize, r: u8, s: u64) -> Triple {
     let c = s_to_cell(s, r as usize, ORIENTATIONS[o]);

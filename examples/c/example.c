@@ -109,6 +109,49 @@ static void code(uint8_t orientation, uint8_t resolution, uint64_t s)
         printf(" reads %" PRIu64 " %" PRIu64 " %" PRIu64 " %" PRIu64 "\n", out[0], out[1], out[2], out[3]);
 }
 
+/* A table of one motif that no compiler wrote: each of its four states has itself for its children. */
+static int32_t by_hand[4 * 41];
+
+static void write_by_hand(void)
+{
+    static const int32_t places[8] = {0, 0, 4, 0, 4, -4, 8, -4};
+    for (int32_t state = 0; state < 4; state++)
+        for (int32_t digit = 0; digit < 4; digit++) {
+            int32_t *part = by_hand + 41 * state;
+            part[digit] = state;
+            part[4 + 2 * digit] = part[12 + 2 * digit] = places[2 * digit];
+            part[5 + 2 * digit] = part[13 + 2 * digit] = places[2 * digit + 1];
+            part[20 + digit] = digit;
+        }
+}
+
+static void descend(uint64_t states, uint8_t passes, uint64_t token, uint64_t s)
+{
+    int64_t out[3] = {0};
+    printf("descend %" PRIu64 " %d %" PRIu64 " %" PRIu64 ":", states, passes, token, s);
+    uint8_t status = hb_descend(by_hand, 4 * 41, states, passes, token, s, out, 3);
+    if (status != HB_OK)
+        printf(" ! %d\n", status);
+    else
+        printf(" %" PRId64 " %" PRId64 " %" PRId64 "\n", out[0], out[1], out[2]);
+}
+
+/* A grammar's text compiled, and the cell at a place of what its first motif draws. */
+static void compile(const char *name, const char *text, uint8_t passes, uint64_t s)
+{
+    static int32_t table[32 * 41];
+    uint64_t states[1];
+    int64_t out[3] = {0};
+    printf("compile %s:", name);
+    uint8_t status = hb_compile((const uint8_t *)text, strlen(text), table, 32 * 41, states, 1);
+    if (status != HB_OK) {
+        printf(" ! %d at line %" PRIu64 "\n", status, states[0]);
+        return;
+    }
+    status = hb_descend(table, 32 * 41, states[0], passes, 0, s, out, 3);
+    printf(" %" PRIu64 " states, place %" PRIu64 ": %d, %" PRId64 " %" PRId64 " %" PRId64 "\n", states[0], s, status, out[0], out[1], out[2]);
+}
+
 /* A refused call leaves what it was lent as it was. */
 static void refused(void)
 {
@@ -159,6 +202,20 @@ int main(void)
     code(0, 2, 6);
     code(5, 1, 3);
     code(5, 1, 4);
+    write_by_hand();
+    descend(4, 1, 0, 3);
+    descend(4, 2, 1, 6);
+    descend(4, 30, 0, (UINT64_C(1) << 60) - 1);
+    descend(4, 2, 0, 16);
+    descend(8, 2, 0, 16);
+    descend(8, 0, 0, 16);
+    compile("A5",
+            "A PQAB E\nB B+++PQ---A +e-\nC P---RMb+++ -e+\nM qQ+++C---b T\n"
+            "P PpB---B+++ S\nQ PQ---Cb+++ D\nR b+++a---qQ +++D---\n",
+            2, 3);
+    compile("a motif that does not split", "A A+++A---AA E\n", 1, 0);
+    compile("a motif listed twice", "A AAAA E\nA AAAA E\n", 1, 0);
+    compile("nothing", "", 1, 0);
     refused();
     return 0;
 }

@@ -50,6 +50,24 @@ mod ffi {
             out_len: usize,
         ) -> u8;
         pub fn hb_code_read(bytes: *const u8, bytes_len: usize, out: *mut u64, out_len: usize) -> u8;
+        pub fn hb_descend(
+            table: *const i32,
+            table_len: usize,
+            states: u64,
+            passes: u8,
+            token: u64,
+            s: u64,
+            out: *mut i64,
+            out_len: usize,
+        ) -> u8;
+        pub fn hb_compile(
+            text: *const u8,
+            text_len: usize,
+            table: *mut i32,
+            table_len: usize,
+            out: *mut u64,
+            out_len: usize,
+        ) -> u8;
     }
 }
 
@@ -107,6 +125,17 @@ mod haspbarley {
 
     pub fn code_read(bytes: &[u8], out: &mut [u64]) -> u8 {
         unsafe { ffi::hb_code_read(bytes.as_ptr(), bytes.len(), out.as_mut_ptr(), out.len()) }
+    }
+
+    pub fn compile(text: &[u8], table: &mut [i32], out: &mut [u64]) -> u8 {
+        unsafe {
+            ffi::hb_compile(text.as_ptr(), text.len(), table.as_mut_ptr(), table.len(), out.as_mut_ptr(), out.len())
+        }
+    }
+
+    pub fn descend(table: &[i32], states: u64, passes: u8, token: u64, s: u64, out: &mut [i64]) -> u8 {
+        let (n, room) = (table.len(), out.len());
+        unsafe { ffi::hb_descend(table.as_ptr(), n, states, passes, token, s, out.as_mut_ptr(), room) }
     }
 }
 
@@ -184,6 +213,39 @@ fn code(orientation: u8, resolution: u8, s: u64) {
     println!();
 }
 
+/// A table of one motif that no compiler wrote: each of its four states has itself for its children.
+fn by_hand() -> [i32; 4 * 41] {
+    let places = [[0, 0], [4, 0], [4, -4], [8, -4]];
+    let mut table = [0; 4 * 41];
+    for (state, part) in table.chunks_mut(41).enumerate() {
+        for (digit, place) in places.iter().enumerate() {
+            part[digit] = state as i32;
+            part[4 + 2 * digit..6 + 2 * digit].copy_from_slice(place);
+            part[12 + 2 * digit..14 + 2 * digit].copy_from_slice(place);
+            part[20 + digit] = digit as i32;
+        }
+    }
+    table
+}
+
+fn descend(table: &[i32], states: u64, passes: u8, token: u64, s: u64) {
+    let mut out = [0; 3];
+    let status = haspbarley::descend(table, states, passes, token, s, &mut out);
+    println!("descend {states} {passes} {token} {s}: {}", gives(status, &out));
+}
+
+/// A grammar's text compiled, and the cell at a place of what its first motif draws.
+fn compile(name: &str, text: &str, passes: u8, s: u64) {
+    let (mut table, mut states, mut out) = ([0; 32 * 41], [0], [0; 3]);
+    let status = haspbarley::compile(text.as_bytes(), &mut table, &mut states);
+    if status != 0 {
+        println!("compile {name}: ! {status} at line {}", states[0]);
+        return;
+    }
+    let status = haspbarley::descend(&table, states[0], passes, 0, s, &mut out);
+    println!("compile {name}: {} states, place {s}: {status}, {}", states[0], gives(0, &out));
+}
+
 /// A refused call leaves what it was lent as it was.
 fn refused() {
     let mut out = [7; 4];
@@ -230,5 +292,22 @@ fn main() {
     code(0, 2, 6);
     code(5, 1, 3);
     code(5, 1, 4);
+    let table = by_hand();
+    descend(&table, 4, 1, 0, 3);
+    descend(&table, 4, 2, 1, 6);
+    descend(&table, 4, 30, 0, (1 << 60) - 1);
+    descend(&table, 4, 2, 0, 16);
+    descend(&table, 8, 2, 0, 16);
+    descend(&table, 8, 0, 0, 16);
+    compile(
+        "A5",
+        "A PQAB E\nB B+++PQ---A +e-\nC P---RMb+++ -e+\nM qQ+++C---b T\n\
+         P PpB---B+++ S\nQ PQ---Cb+++ D\nR b+++a---qQ +++D---\n",
+        2,
+        3,
+    );
+    compile("a motif that does not split", "A A+++A---AA E\n", 1, 0);
+    compile("a motif listed twice", "A AAAA E\nA AAAA E\n", 1, 0);
+    compile("nothing", "", 1, 0);
     refused();
 }

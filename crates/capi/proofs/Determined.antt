@@ -6,8 +6,9 @@ use Prim.Native.Nat.{ℕ}
 use lib.IntN.{ℤ}
 use lib.Ieee.{Float}
 use Rattle.triple.specs.Refusals.{Told}
-use Rattle.capi.specs.Calls.{cellCall, positionCall, nodeCall, stepCall, pointCall, cornerCall, tripleCall, writeCall, readCall, lineCall}
+use Rattle.capi.specs.Calls.{cellCall, positionCall, nodeCall, stepCall, pointCall, cornerCall, tripleCall, writeCall, readCall, lineCall, descendCall}
 use Rattle.capi.proofs.LentLaws.{Called, CalledBoth}
+use Rattle.capi.proofs.CompileLaws.{CompileCalled}
 
 -- ---- whatever the call gives
 module _ {A : Type 0} (call : Told (List A)) (slice : List A) where
@@ -52,3 +53,10 @@ hb-code-read-determined bytes = called-once (readCall bytes)
 
 pub hb-line-determined : (line text out : List ℕ) (m n : ℕ) (v w x y : List ℕ) → CalledBoth (lineCall line) text out m v x → CalledBoth (lineCall line) text out n w y → (m ≡ n) × (v ≡ w) × (x ≡ y)
 hb-line-determined line = called-both-once (lineCall line)
+
+pub hb-descend-determined : (table : List ℤ) (states passes token s : ℕ) (out : List ℤ) (m n : ℕ) (x y : List ℤ)
+    → Called (descendCall table states passes token s) out m x → Called (descendCall table states passes token s) out n y → (m ≡ n) × (x ≡ y)
+hb-descend-determined table states passes token s = called-once (descendCall table states passes token s)
+
+pub hb-compile-determined : (text : List ℕ) (table : List ℤ) (out : List ℕ) (m n : ℕ) (v w : List ℤ) (x y : List ℕ) → CompileCalled text table out m v x → CompileCalled text table out n w y → (m ≡ n) × (v ≡ w) × (x ≡ y)
+hb-compile-determined text table out m n v w x y p q = (p .0 ∙ sym (q .0), p .1 ∙ sym (q .1), p .2 ∙ sym (q .2))

@@ -4,3 +4,4 @@ pub mod WriteLaws
 pub mod LineLaws
 pub mod Determined
 pub mod Examples
+pub mod CompileLaws

@@ -1,26 +1,32 @@
 -- Each call's values, in the order in which it writes them.
 use mathlib.Core.List.{List, [], _∷_}
-use Prim.Native.Nat.{ℕ, _^_}
+use Prim.Native.Nat.{ℕ, _*_, _^_}
 use lib.Dec.{leb, ltb}
 use lib.IntN.{ℤ, pos}
 use lib.ListN.{length}
 use lib.Ieee.{Float}
 use Rattle.triple.specs.declared.Triple.{Triple}
 use Rattle.triple.specs.declared.refusal.Refusal.the-variants as Is
-use Rattle.triple.specs.Refusals.{Told, told, refuse}
+use Rattle.triple.specs.Refusals.{Told, told, refused, refuse}
 use Rattle.turtle.specs.declared.AB.{AB}
 use Rattle.turtle.specs.Corners.{cornerSumOf, tripleOf}
 use Rattle.lsystem.specs.declared.Named.{Named}
 use Rattle.lsystem.specs.declared.Position.{Position}
-use Rattle.lsystem.specs.declared.Node.{Node}
-use Rattle.lsystem.specs.declared.ChildStep.{ChildStep}
-use Rattle.lsystem.specs.declared.Reached.{Reached}
+use Rattle.nodes.specs.declared.Node.{Node}
+use Rattle.nodes.specs.declared.ChildStep.{ChildStep}
+use Rattle.nodes.specs.declared.Reached.{Reached}
 use Rattle.lsystem.specs.Cells.{cellOf, positionOf}
-use Rattle.lsystem.specs.Nodes.{childOf, nodeOf}
+use Rattle.nodes.specs.Nodes.{childOf, nodeOf}
+use Rattle.tables.specs.Descent.{Leaf, descentOf}
 use Rattle.curve.specs.Points.{pointOf}
 use Rattle.code.specs.declared.Reading.{Reading}
 use Rattle.code.specs.Codes.{codeLength, codeBytes, readOf}
 use Rattle.query.specs.Lines.{answerLine}
+use Rattle.grammar.specs.Texts.{linesOf}
+use Rattle.grammar.specs.Curves.{tokenBytes}
+use Rattle.grammar.specs.Tests.{Verdict, fine, fault}
+use Rattle.tables.specs.Compiler.{tableFor}
+use Rattle.tables.specs.Verdicts.{verdict}
 use Rattle.capi.specs.Lent.{valued}
 
 -- x y z
@@ -47,6 +53,10 @@ stepValues c =
 -- a b
 abbrev pub pairValues : AB → List ℤ
 pairValues p = p .a ∷ p .b ∷ []
+
+-- a b flavor
+abbrev pub drawnValues : Leaf → List ℤ
+drawnValues l = l .sum .a ∷ l .sum .b ∷ l .flavor ∷ []
 
 -- count
 abbrev pub countValues : ℕ → List ℕ
@@ -77,6 +87,9 @@ cornerCall x y z = valued pairValues (cornerSumOf (record { x = x; y = y; z = z 
 abbrev pub tripleCall : ℤ → ℤ → Told (List ℤ)
 tripleCall a b = valued tripleValues (tripleOf (record { a = a; b = b }))
 
+abbrev pub descendCall : List ℤ → ℕ → ℕ → ℕ → ℕ → Told (List ℤ)
+descendCall table states passes token s = valued drawnValues (descentOf table states passes token s)
+
 abbrev pub readCall : List ℕ → Told (List ℕ)
 readCall bytes = valued readingValues (readOf bytes)
 
@@ -91,3 +104,15 @@ writeCall o r s =
 -- the answer to a line as the program prints it, without LF, and its length
 abbrev pub lineCall : List ℕ → Told (List ℕ × List ℕ)
 lineCall line = told (answerLine line, countValues (length (answerLine line)))
+
+-- a text's table, and its number of states; the line at fault has a place of its own
+abbrev pub compileBy : Verdict → List ℤ × List ℕ → Told (List ℤ × List ℕ)
+compileBy fine values = told values
+compileBy (fault n line) values = refused n
+
+unfoldable pub compileCall : List ℕ → Told (List ℤ × List ℕ)
+compileCall text = compileBy (verdict text) (tableFor text, countValues (2 * length (tokenBytes (linesOf text))))
+
+abbrev pub lineOr : Verdict → Told (List ℕ) → Told (List ℕ)
+lineOr fine call = call
+lineOr (fault n line) call = told (countValues line)

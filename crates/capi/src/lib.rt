@@ -10,17 +10,20 @@ ghost use mathlib.Core.Bool.{cond};
 ghost use Prim.Native.Nat.{_≤_};
 ghost use lib.Dec.{ltb};
 ghost use Rattle.capi.specs.Lent.{statusOf, afterCall, firstOf, secondOf};
-ghost use Rattle.capi.specs.Calls.{cellCall, positionCall, nodeCall, stepCall, pointCall, cornerCall, tripleCall, readCall, writeCall, lineCall};
+ghost use Rattle.capi.specs.Calls.{cellCall, positionCall, nodeCall, stepCall, pointCall, cornerCall, tripleCall, readCall, writeCall, lineCall, descendCall, compileCall, lineOr};
+ghost use Rattle.tables.specs.Verdicts.{verdict};
 use code::ReadAnswer;
 use code::WriteAnswer;
 use curve::PointAnswer;
-use lsystem::Node;
+use descent::DescentAnswer;
 use lsystem::cell::CellAnswer;
 use lsystem::lookup::PositionAnswer;
-use lsystem::nodes::ChildAnswer;
-use lsystem::nodes::ReachedAnswer;
+use nodes::ChildAnswer;
+use nodes::Node;
+use nodes::ReachedAnswer;
 use put::put_cell;
 use put::put_count;
+use put::put_drawn;
 use put::put_node;
 use put::put_pair;
 use put::put_position;
@@ -28,6 +31,7 @@ use put::put_reading;
 use put::put_step;
 use put::put_triple;
 use query::print::PrintAnswer;
+use tables::compiler::CompileAnswer;
 use triple::Triple;
 use turtle::AB;
 use turtle::corner::CornerAnswer;
@@ -79,11 +83,7 @@ pub extern "C" fn hb_node(
 ) -> u8
     ensures { λ n. ⌜ (n ≡ statusOf (firstOf (nodeCall orientation resolution x y z) (now (places .entry))) (now (numbers .entry))) × (now (numbers .exit) ≡ afterCall (firstOf (nodeCall orientation resolution x y z) (now (places .entry))) (now (numbers .entry))) × (now (places .exit) ≡ afterCall (secondOf (nodeCall orientation resolution x y z) (now (numbers .entry))) (now (places .entry))) ⌝ }
 {
-    let answer = lsystem::nodes::triple_to_curve_node(
-        orientation,
-        resolution,
-        Triple::new(x, y, z),
-    );
+    let answer = nodes::triple_to_curve_node(orientation, resolution, Triple::new(x, y, z));
     match answer {
         ReachedAnswer::Reached(p) => put_node(p.node, numbers, places),
         ReachedAnswer::Refused(e) => e.number(),
@@ -208,5 +208,43 @@ pub extern "C" fn hb_line(line: &[u8], text: &mut [u8], out: &mut [u64]) -> u8
     match answer {
         PrintAnswer::Printed(count) => put_count(count, out),
         PrintAnswer::Refused(e) => e.number(),
+    }
+}
+
+// The cell at place s of what a table gives, whoever wrote it, after `passes` passes from a token: a b
+// flavor. `states` counts the states that the table holds at its front.
+#[no_mangle]
+pub extern "C" fn hb_descend(
+    table: &[i32],
+    states: u64,
+    passes: u8,
+    token: u64,
+    s: u64,
+    out: &mut [i64],
+) -> u8
+    ensures { λ n. ⌜ (n ≡ statusOf (descendCall (now (table .entry)) states passes token s) (now (out .entry))) × (now (out .exit) ≡ afterCall (descendCall (now (table .entry)) states passes token s) (now (out .entry))) ⌝ }
+{
+    let answer = descent::descend_table(table, states as usize, passes, token as usize, s);
+    match answer {
+        DescentAnswer::At(c) => put_drawn(c, out),
+        DescentAnswer::Refused(e) => e.number(),
+    }
+}
+
+// Compiles a grammar's text: its table at the front of `table`, and the number of states to `out`. Of a
+// text that is refused, from 12 to 20, `out` has the line at fault.
+#[no_mangle]
+pub extern "C" fn hb_compile(text: &[u8], table: &mut [i32], out: &mut [u64]) -> u8
+    ensures { λ n. ⌜ (n ≡ statusOf (firstOf (compileCall (now (text .entry))) (now (out .entry))) (now (table .entry))) × (now (table .exit) ≡ afterCall (firstOf (compileCall (now (text .entry))) (now (out .entry))) (now (table .entry))) × (now (out .exit) ≡ afterCall (lineOr (verdict (now (text .entry))) (secondOf (compileCall (now (text .entry))) (now (table .entry)))) (now (out .entry))) ⌝ }
+{
+    let room = lendable(table.len(), out.len());
+    let answer = tables::compiler::compile_grammar(text, &mut table[..room]);
+    match answer {
+        CompileAnswer::States(count) => put_count(count, out),
+        CompileAnswer::Fault(e, line) => {
+            put_count(line, out);
+            e.number()
+        }
+        CompileAnswer::Refused(e) => e.number(),
     }
 }

@@ -3,13 +3,15 @@
 ghost use mathlib.Core.Path.{_≡_};
 ghost use Rattle.triple.specs.Refusals.{told};
 ghost use Prim.Native.Nat.{_≤_};
+ghost use Rattle.descent.specs.Answers.{saidLeaf};
 ghost use Rattle.capi.specs.Lent.{statusOf, afterCall, firstOf, secondOf};
-ghost use Rattle.capi.specs.Calls.{tripleValues, cellValues, positionValues, nodeValues, stepValues, pairValues, countValues, readingValues};
+ghost use Rattle.capi.specs.Calls.{tripleValues, cellValues, positionValues, nodeValues, stepValues, pairValues, drawnValues, countValues, readingValues};
 use code::Reading;
-use lsystem::ChildStep;
+use descent::TableCell;
 use lsystem::Named;
-use lsystem::Node;
 use lsystem::Position;
+use nodes::ChildStep;
+use nodes::Node;
 use triple::Triple;
 use triple::refusal::Refusal;
 use turtle::AB;
@@ -121,6 +123,23 @@ pub(crate) fn put_pair(p: AB, out: &mut [i64]) -> u8
     let b = p.b;
     out[0] = a;
     out[1] = b;
+    0
+}
+
+// a b flavor
+pub(crate) fn put_drawn(c: TableCell, out: &mut [i64]) -> u8
+    ensures { λ n. ⌜ (n ≡ statusOf (told (drawnValues (saidLeaf c))) (now (out .entry))) × (now (out .exit) ≡ afterCall (told (drawnValues (saidLeaf c))) (now (out .entry))) ⌝ }
+{
+    if out.len() < 3 {
+        return Refusal::Room.number();
+    }
+    let p = c.sum;
+    let a = p.a;
+    let b = p.b;
+    let flavor = c.flavor as i64;
+    out[0] = a;
+    out[1] = b;
+    out[2] = flavor;
     0
 }
 

@@ -11,11 +11,11 @@ use Rattle.lsystem.specs.Cells.{placeOf, isBackward, cellAt, cellOf}
 use Rattle.lsystem.proofs.Examples.{cell-examples, corner-examples}
 use Rattle.tables.proofs.Examples.{no-split}
 use Rattle.tables.specs.Descent.{entry}
-use Rattle.lsystem.specs.A5Table.{a5Table}
-use Rattle.lsystem.proofs.Footprints.{before-x, before-y, before-g, begins, at-x, at-y, at-g, leaf-x, leaf-y, leaf-g}
-use Rattle.lsystem.proofs.Spots.{moved, leaf, walk}
-use Rattle.lsystem.proofs.Axioms.{tripleAt}
-use Rattle.lsystem.proofs.Once.{cellTriple}
+use Rattle.a5.specs.A5Table.{a5Table}
+use Rattle.a5.proofs.Footprints.{before-x, before-y, before-g, begins, at-x, at-y, at-g, leaf-x, leaf-y, leaf-g}
+use Rattle.a5.proofs.Spots.{moved, leaf, walk}
+use Rattle.a5.proofs.Axioms.{tripleAt}
+use Rattle.a5.proofs.Once.{cellTriple}
 use Rattle.lsystem.proofs.CellLaws.{axiomIn, cell-at}
 use Rattle.curve.proofs.Examples.{point-examples}
 use Rattle.code.proofs.Examples.{code-examples}

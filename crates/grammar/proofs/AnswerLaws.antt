@@ -7,8 +7,8 @@ use Prim.Native.Nat.{ℕ, zero, suc, _+_, _≤_, _<_, min}
 use native.Mathlib.Nat.{zero-add}
 use native.Mathlib.Omega.{arith}
 use lib.ListN.{length, getD, take}
-use Rattle.grammar.specs.declared.text.Lines.{Lines}
-use Rattle.grammar.specs.declared.text.Scan.{Scan}
+use Rattle.grammar.specs.declared.lines.Lines.{Lines}
+use Rattle.grammar.specs.declared.lines.Scan.{Scan}
 use Rattle.grammar.specs.declared.text.Test.{Test}
 use Rattle.grammar.specs.Texts.{rowsOf, Line, linesOf}
 use Rattle.grammar.specs.Tests.{Verdict, fine, fault, first, faultAt, badShape, badMotif, badRule, badCount, badHeading, badDraw, badTurns, badNet, lineTests, someRows, textTests}
@@ -23,7 +23,7 @@ take-lines text ls zero k i h = refl
 take-lines text ls (suc n) zero i h = absurd (omega arith)
 take-lines text ls (suc n) (suc k) i h = ap (λ l. lineAt text ls i ∷ l) (take-lines text ls n k (suc i) (omega arith))
 
-line-of : (text : List ℕ) (ls : Lines) (n k i : ℕ) (d : Line) → n < k → getD (linesFrom text ls k i) n d ≡ lineAt text ls (i + n)
+pub line-of : (text : List ℕ) (ls : Lines) (n k i : ℕ) (d : Line) → n < k → getD (linesFrom text ls k i) n d ≡ lineAt text ls (i + n)
 unfolding linesFrom
 line-of text ls n zero i d h = absurd (omega arith)
 line-of text ls zero (suc k) i d h = let e : i ≡ i + 0 = omega arith in ap (lineAt text ls) e

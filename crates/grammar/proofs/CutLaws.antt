@@ -14,7 +14,7 @@ use Rattle.whole.proofs.Bools.{both-left, both-right, from-true}
 use Rattle.grammar.specs.Texts.{Row, rowsOf, prefixed, grown, fieldsOf, shaped, Line, lineOf}
 use Rattle.grammar.proofs.ListLaws.{drop-take}
 use Rattle.grammar.specs.TextParts.{until, ended, Cut, Misshapen, Three, WholeRow, FirstRow}
-use Rattle.grammar.specs.declared.text.Shape.{Shape}
+use Rattle.grammar.specs.declared.lines.Shape.{Shape}
 
 span : (n most : ℕ) → (leb 1 n && leb n most) ≡ true → (1 ≤ n) × (n ≤ most)
 span n most e = let t = from-true e in (leb→le 1 n (both-left (leb 1 n) (leb n most) t), leb→le n most (both-right (leb 1 n) (leb n most) t))

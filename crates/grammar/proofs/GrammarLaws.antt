@@ -22,7 +22,7 @@ letters-append (left ∷ w) u = letters-append w u
 letters-append (right ∷ w) u = letters-append w u
 letters-append (letter a ∷ w) u = omega (arith, letters-append w u)
 
-length-cells : (w : List (Sym Stroke)) (t : Turtle) → length (cells w t) ≡ letters w
+pub length-cells : (w : List (Sym Stroke)) (t : Turtle) → length (cells w t) ≡ letters w
 unfolding cells letters
 length-cells [] t = refl
 length-cells (left ∷ w) t = length-cells w (move left t)

@@ -7,6 +7,8 @@ pub mod MirrorLaws
 pub mod TokenLaws
 pub mod PassLaws
 pub mod Meaning
+pub mod StrokeLaws
+pub mod CountLaws
 pub mod WordLaws
 pub mod BookLaws
 pub mod ExpandLaws

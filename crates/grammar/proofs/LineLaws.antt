@@ -11,9 +11,9 @@ use lib.Dec.{leb, eqb}
 use lib.ListN.{length, getD, take, drop, set, length-set, length-drop, drop-of-length-le}
 use lib.Seq.{take-suc, take-all, drop-drop, getD-drop, getD-set-same, getD-set-other, length-take-le}
 use borrow.Author.Tests.{le-leb, lt-leb}
-use Rattle.grammar.specs.declared.text.Lines.{Lines}
-use Rattle.grammar.specs.declared.text.Scan.{Scan}
-use Rattle.grammar.specs.declared.text.Shape.{Shape}
+use Rattle.grammar.specs.declared.lines.Lines.{Lines}
+use Rattle.grammar.specs.declared.lines.Scan.{Scan}
+use Rattle.grammar.specs.declared.lines.Shape.{Shape}
 use Rattle.grammar.specs.Texts.{Row, prefixed, rowsOf, shaped, Line, lineOf, linesOf}
 use Rattle.grammar.specs.Tests.{first, badShape}
 use Rattle.grammar.specs.TextParts.{lineAt, linesFrom, linesBy, noLines, added, Sized, ended, Cut, Misshapen, FirstRow, Scanned}

@@ -25,14 +25,14 @@ use Rattle.turtle.specs.declared.walk.Cell.{Cell}
 use Rattle.turtle.specs.declared.walk.Turtle.{Turtle}
 use Rattle.turtle.specs.declared.walk.Stepped.{Stepped}
 use Rattle.turtle.specs.Letters.{strokeOf}
-use Rattle.turtle.specs.Plane.{origin, _⊕_, far}
+use Rattle.turtle.specs.Plane.{origin, _⊕_, far, equalAB}
 use Rattle.turtle.specs.Sizes.{Within, Small}
-use Rattle.turtle.specs.Walk.{Sym, left, right, letter, drawn, symbolOf, symbolsOf, start, move, final, stepBy, stepOf}
+use Rattle.turtle.specs.Walk.{Sym, left, right, letter, drawn, symbolOf, symbolsOf, start, move, final, stepBy, stepOf, cornersBy, cornersOf}
 use Rattle.turtle.proofs.LetterLaws.{stroke-small}
 use Rattle.turtle.proofs.SymbolLaws.{symbols-append}
 use Rattle.turtle.proofs.WalkLaws.{small-more, rots-small, add-small, far-is}
 use Rattle.turtle.proofs.WordLaws.{final-append}
-use Rattle.grammar.specs.declared.text.Lines.{Lines}
+use Rattle.grammar.specs.declared.lines.Lines.{Lines}
 use Rattle.grammar.specs.declared.word.Book.{Book}
 use Rattle.grammar.specs.declared.word.WordAnswer.{WordAnswer}
 use Rattle.grammar.specs.Words.{upper, bySelf, byBook, wordOf, expandOnce}
@@ -40,7 +40,7 @@ use Rattle.grammar.specs.WordAnswers.{saidWord, writtenTo, afterWord}
 use Rattle.grammar.specs.Books.{rowWord, rowsWord, bookOf}
 use Rattle.grammar.specs.Texts.{Line}
 use Rattle.grammar.specs.Curves.{rules, draws, passes, strokes, net}
-use Rattle.grammar.specs.Tests.{equalAB, badNet}
+use Rattle.grammar.specs.Tests.{badNet}
 use Rattle.grammar.specs.TextParts.{linesFrom, linesBy, Sized, ruleBook, drawBook}
 use Rattle.grammar.proofs.TurnLaws.{turned-small}
 use Rattle.grammar.proofs.GrammarLaws.{final-heading}
@@ -109,11 +109,11 @@ module _ (text : List ℕ) (ls : Lines) (sized : Sized ls) where
   draws-most zero i b = tt
   draws-most (suc k) i b = chosen (eqb (getD (ls .name) i 0) b) 12 (rowWord text (ls .draw) (ls .«draw_len») i) (draws (linesFrom text ls k (suc i)) b) (part-most (getD (ls .«draw_len») i 0) (getD (ls .draw) i 0) 12 (sized .draws i)) (draws-most k (suc i) b)
 
-  rule-pass-most : (w : List ℕ) → length (expandOnce (rules (linesBy text ls)) w) ≤ 24 * length w
+  pub rule-pass-most : (w : List ℕ) → length (expandOnce (rules (linesBy text ls)) w) ≤ 24 * length w
   unfolding linesBy
   rule-pass-most w = pass-most (rules (linesFrom text ls (min (ls .count) 8) 0)) 24 (omega arith) (rules-most (min (ls .count) 8) 0) w
 
-  draw-pass-most : (w : List ℕ) → length (expandOnce (draws (linesBy text ls)) w) ≤ 12 * length w
+  pub draw-pass-most : (w : List ℕ) → length (expandOnce (draws (linesBy text ls)) w) ≤ 12 * length w
   unfolding linesBy
   draw-pass-most w = pass-most (draws (linesFrom text ls (min (ls .count) 8) 0)) 12 (omega arith) (draws-most (min (ls .count) 8) 0) w
 
@@ -143,7 +143,7 @@ after (Stepped.Turned t) s = t
 after Stepped.NoDraw s = s
 after Stepped.Lost s = s
 
-one-symbol : (b : ℕ) → length (symbolOf b) ≤ 1
+pub one-symbol : (b : ℕ) → length (symbolOf b) ≤ 1
 unfolding symbolOf
 one-symbol b = go (eqb b 43) (eqb b 45) (strokeOf b)
   where
@@ -175,9 +175,13 @@ near {p} s =
     (λ e. (le-by (search view) va tt (omega arith), (le-by va (search view) tt (omega arith), (le-by (search view) vb tt (omega arith), (le-by vb (search view) tt (omega arith), tt)))))
 
 module _ (b : ℕ) (t : Turtle) (small : Small 65536 (t .at) × (t .heading < 6)) where
-  step-near : stepOf b t ≡ stepBy (symbolOf b) t
+  pub step-near : stepOf b t ≡ stepBy (symbolOf b) t
   unfolding stepOf
   step-near = rw (sym (near (small .0)), mod-eq-of-lt (small .1)) refl
+
+  pub corners-near : cornersOf b t ≡ cornersBy (strokeOf b) t
+  unfolding cornersOf
+  corners-near = rw (sym (near (small .0)), mod-eq-of-lt (small .1)) refl
 
   step-after : {s : Stepped} → s ≡ stepOf b t → after s t ≡ final (symbolOf b) t
   step-after e = ap (λ s. after s t) (e ∙ step-near) ∙ after-symbols (symbolOf b) (one-symbol b) t
@@ -267,7 +271,7 @@ twice-not p q h = is-false (equalAB p q) (λ t. h (equal-pairs p q t))
 -- ---- the nets
 module _ (text : List ℕ) (ls : Lines) (sized : Sized ls) where
   module _ {book : Book} (book-is : book ≡ drawBook ls) (w : List ℕ) where
-    drawn-pass : expandOnce (bookOf text book) w ≡ expandOnce (draws (linesBy text ls)) w
+    pub drawn-pass : expandOnce (bookOf text book) w ≡ expandOnce (draws (linesBy text ls)) w
     drawn-pass = rw (book-is, book-draws text ls) refl
 
     pub drawn-room : length w ≤ 576 → length (expandOnce (bookOf text book) w) ≤ 6912
@@ -284,7 +288,7 @@ module _ (text : List ℕ) (ls : Lines) (sized : Sized ls) where
       drawn-ends e = (e .0 ∙ ap (λ v. final (symbolsOf v) start .at) drawn-word, e .1)
 
   module _ {book : Book} (book-is : book ≡ ruleBook ls) (w : List ℕ) where
-    rule-pass : expandOnce (bookOf text book) w ≡ expandOnce (rules (linesBy text ls)) w
+    pub rule-pass : expandOnce (bookOf text book) w ≡ expandOnce (rules (linesBy text ls)) w
     rule-pass = rw (book-is, book-rules text ls) refl
 
     pub rule-room : {room : ℕ} → 24 * length w ≤ room → length (expandOnce (bookOf text book) w) ≤ room

@@ -16,9 +16,9 @@ use Rattle.turtle.specs.Walk.{Sym, left, right, letter, symbolOf, symbolsOf}
 use Rattle.turtle.specs.declared.letter.Letter.{Letter}
 use Rattle.turtle.proofs.SymbolLaws.{symbols-append}
 use Rattle.turtle.proofs.LetterLaws.{no-letter}
-use Rattle.grammar.specs.declared.text.Kind.{Kind}
-use Rattle.grammar.specs.declared.text.Lines.{Lines}
-use Rattle.grammar.specs.declared.text.Tally.{Tally}
+use Rattle.grammar.specs.declared.tally.Kind.{Kind}
+use Rattle.grammar.specs.declared.lines.Lines.{Lines}
+use Rattle.grammar.specs.declared.tally.Tally.{Tally}
 use Rattle.grammar.specs.Words.{isLower, upper, mirrored}
 use Rattle.grammar.specs.Texts.{Line}
 use Rattle.grammar.specs.Curves.{isNamed, childOf, childrenOf, turned, letters, upright}

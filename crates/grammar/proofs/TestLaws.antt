@@ -12,12 +12,12 @@ use lib.ListN.{length}
 use Rattle.whole.proofs.Bools.{both-left, both-right}
 use Rattle.whole.proofs.Parts.{orders}
 use Rattle.turtle.specs.declared.AB.{AB}
-use Rattle.turtle.specs.Plane.{ab, _⊕_}
+use Rattle.turtle.specs.Plane.{ab, _⊕_, equal, equalAB}
 use Rattle.turtle.specs.Walk.{symbolsOf}
 use Rattle.grammar.specs.Words.{isUpper, reversed}
 use Rattle.grammar.specs.Texts.{Row, Line, rowsOf, linesOf}
 use Rattle.grammar.specs.Curves.{isNamed, childrenOf, turned, letters, upright, net}
-use Rattle.grammar.specs.Tests.{Verdict, fine, firstFrom, first, faultAt, badShape, badMotif, lawfulRule, badRule, badCount, badHeading, lawfulDraw, badDraw, badTurns, equal, equalAB, badNet, lineTests, someRows, textTests}
+use Rattle.grammar.specs.Tests.{Verdict, fine, firstFrom, first, faultAt, badShape, badMotif, lawfulRule, badRule, badCount, badHeading, lawfulDraw, badDraw, badTurns, badNet, lineTests, someRows, textTests}
 
 -- what the tests 15 to 18 ask of a rule and a draw
 pub record Fair (ls : List Line) (rule draw : List ℕ) : Type 0 where
@@ -28,11 +28,12 @@ pub record Fair (ls : List Line) (rule draw : List ℕ) : Type 0 where
   pub rule-turns : turned 0 (childrenOf ls rule) ≡ 0
   pub draw-turns : turned 0 (symbolsOf draw) ≡ 0
 
--- and with 13, 14 and 19 of a line, as far as the drawing rests on it
+-- and with 13, 14, 17 and 19 of a line, as far as the drawing and its flavors rest on it
 pub record Good (ls : List Line) (l : Line) : Type 0 where
   pub uppercase : T (isUpper (l .name))
   pub lawful : T (lawfulRule ls (l .rule))
   pub fair : Fair ls (l .rule) (l .draw)
+  pub plain : T (lawfulDraw (l .draw))
   pub twice : net ls 2 (l .name) ≡ net ls 1 (l .name) ⊕ net ls 1 (l .name)
 
 -- ---- no test found a line at fault
@@ -44,11 +45,11 @@ abbrev Asked : List (List Line → Line → Bool) → Line → Type 0
 Asked [] l = Unit {0}
 Asked (bad ∷ bads) l = ((before : List Line) × T (not (bad before l))) × Asked bads l
 
-no-fault : (n k : ℕ) (next : Verdict) → faultAt n k next ≡ fine → (k ≡ 0) × (next ≡ fine)
+pub no-fault : (n k : ℕ) (next : Verdict) → faultAt n k next ≡ fine → (k ≡ 0) × (next ≡ fine)
 no-fault n zero next e = (refl, e)
 no-fault n (suc k) next e = (cc, cc)
 
-not-here : (t : Bool) (k rest : ℕ) → cond t (suc k) rest ≡ 0 → T (not t) × (rest ≡ 0)
+pub not-here : (t : Bool) (k rest : ℕ) → cond t (suc k) rest ≡ 0 → T (not t) × (rest ≡ 0)
 not-here true k rest e = absurd (omega arith)
 not-here false k rest e = (tt, e)
 
@@ -123,6 +124,7 @@ module _ (ls : List Line) (next : Verdict) (p : lineTests ls next ≡ fine) wher
               rule-turns = eqb→eq (turned 0 rule) 0 (both-left rule-turns draw-turns turns);
               draw-turns = eqb→eq (turned 0 draw) 0 (both-right rule-turns draw-turns turns);
             };
+        plain = both-left (lawfulDraw (l .draw)) single strokes;
         twice = equal-pairs (net ls 2 (l .name)) (once ⊕ once) nets;
       }
 

@@ -8,8 +8,8 @@ use lib.Dec.{T, eqb}
 use borrow.Author.Tests.{lt-leb, le-leb, eq-eqb, ne-eqb, not-true, not-false}
 use Rattle.whole.proofs.Bools.{is-true}
 use Rattle.turtle.specs.Walk.{symbolsOf}
-use Rattle.grammar.specs.declared.text.Lines.{Lines}
-use Rattle.grammar.specs.declared.text.Tally.{Tally}
+use Rattle.grammar.specs.declared.lines.Lines.{Lines}
+use Rattle.grammar.specs.declared.tally.Tally.{Tally}
 use Rattle.grammar.specs.Words.{isUpper, reversed}
 use Rattle.grammar.specs.Texts.{Line}
 use Rattle.grammar.specs.Curves.{isNamed, childrenOf, turned, letters, upright}

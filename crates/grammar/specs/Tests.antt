@@ -3,11 +3,8 @@ use mathlib.Core.Bool.{Bool, true, false, not, _&&_, _||_, cond}
 use mathlib.Core.List.{List, [], _∷_, _++_}
 use Prim.Native.Nat.{ℕ, zero, suc}
 use lib.Dec.{leb, eqb}
-use lib.IntN.{ℤ}
-use lib.Signed.{leZ}
 use lib.ListN.{length}
-use Rattle.turtle.specs.declared.AB.{AB}
-use Rattle.turtle.specs.Plane.{_⊕_}
+use Rattle.turtle.specs.Plane.{_⊕_, equalAB}
 use Rattle.turtle.specs.Walk.{symbolsOf}
 use Rattle.grammar.specs.Words.{isUpper, upper, reversed}
 use Rattle.grammar.specs.Texts.{Row, shaped, Line, rowsOf, linesOf}
@@ -76,12 +73,6 @@ unfoldable pub badTurns : List Line → Line → Bool
 badTurns ls l = not (eqb (turned 0 (childrenOf ls (l .rule))) 0 && eqb (turned 0 (symbolsOf (l .draw))) 0)
 
 -- 19: the net after two passes is not twice the net after one
-abbrev pub equal : ℤ → ℤ → Bool
-equal x y = leZ x y && leZ y x
-
-abbrev pub equalAB : AB → AB → Bool
-equalAB p q = equal (p .a) (q .a) && equal (p .b) (q .b)
-
 unfoldable pub badNet : List Line → Line → Bool
 badNet ls l = let once = net ls 1 (l .name) in not (equalAB (net ls 2 (l .name)) (once ⊕ once))
 

@@ -11,12 +11,12 @@ use Rattle.grammar.specs.Books.{rowWord}
 use Rattle.grammar.specs.Texts.{Row, shaped, Line, lineOf, rowsOf, linesOf}
 use Rattle.grammar.specs.Curves.{isNamed, childOf, childrenOf, turned, letters, upright}
 use Rattle.grammar.specs.Tests.{first, badShape, badMotif, lawfulRule, badRule, badCount, badHeading, isTurn, isStroke, lawfulDraw, badDraw, badTurns, badNet}
-use Rattle.grammar.specs.declared.text.Lines.{Lines}
+use Rattle.grammar.specs.declared.lines.Lines.{Lines}
 use Rattle.grammar.specs.declared.word.Book.{Book}
-use Rattle.grammar.specs.declared.text.Scan.{Scan}
-use Rattle.grammar.specs.declared.text.Shape.{Shape}
-use Rattle.grammar.specs.declared.text.Kind.{Kind}
-use Rattle.grammar.specs.declared.text.Tally.{Tally}
+use Rattle.grammar.specs.declared.lines.Scan.{Scan}
+use Rattle.grammar.specs.declared.lines.Shape.{Shape}
+use Rattle.grammar.specs.declared.tally.Kind.{Kind}
+use Rattle.grammar.specs.declared.tally.Tally.{Tally}
 use Rattle.grammar.specs.declared.text.Test.{Test}
 
 -- how many elements stand before the first b; all of them where there is none

@@ -2,5 +2,8 @@
 // and the drawing that a grammar makes. Purely symbolic: what a letter draws is `turtle`'s, and the
 // compilation to descent tables is `tables`'s.
 
+pub mod lines;
+mod nets;
+mod tally;
 pub mod text;
 pub mod word;

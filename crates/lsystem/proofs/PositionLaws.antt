@@ -1,187 +1,159 @@
--- THE LOOKUP'S ANSWER: the code's trail passes through the states of the table's lookup, so what it ends at is the position of a triple in bounds; and what the
--- definition gives at each way out of the operation.
+-- The answer of `triple_to_s`: the flavor's answer says whether the triple is in bounds, and its spot is the position's.
 -- Assumes nothing.
-use mathlib.Core.Path.{_≡_, refl, sym, ap, _∙_}
-use mathlib.Core.Bool.{Bool, true, false, cond, not, _&&_}
-use Prim.Native.Nat.{ℕ, zero, suc, _+_, _-_, _*_, _^_, _<_, _≤_}
+use mathlib.Core.Path.{_≡_, refl, sym, ap, _∙_, subst}
+use mathlib.Core.Bool.{Bool, true, false, not, cond}
+use Prim.Native.Nat.{ℕ, zero, suc, _+_, _-_, _*_, _/_, _%_, _^_, _<_, _≤_}
 use native.Mathlib.Omega.{arith}
 use native.Mathlib.Nat as N
-use lib.Dec.{leb}
-use lib.IntN.{ℤ, pos, negℤ, natAbs, _+ℤ_, negℤ-negℤ}
-use borrow.Author.Tests.{lt-ltb, le-ltb, le-leb, not-true, not-false}
-use Rattle.whole.proofs.Parts.{abs-parts, parts-le, neg-up, neg-dn, up-pos, dn-pos, up-dn}
-use Rattle.whole.proofs.Digits.{digit-gather}
+use borrow.Author.Tests.{lt-ltb, le-ltb}
+use lib.Dec.{T}
+use lib.IntN.{ℤ, pos, negℤ, natAbs, _+ℤ_, _-ℤ_}
+use lib.Signed.{nonNeg}
+use mir.Syntax.{w32, w64}
+use mir.Val.{Fits, toZ, ofZ}
+use Rattle.whole.proofs.View.{view, v-upto, v-same, v-add, v-neg, eq-by, kept}
+use Rattle.whole.proofs.Digits.{twice-power}
 use Rattle.triple.specs.declared.Triple.{Triple}
+use Rattle.triple.specs.declared.FlavorAnswer.{FlavorAnswer}
 use Rattle.triple.specs.declared.refusal.Refusal.{Refusal}
 use Rattle.triple.specs.declared.refusal.Refusal.the-variants as Is
-use Rattle.triple.specs.Refusals.{Told, told, refused, refuse, numberOf}
-use Rattle.triple.specs.Triples.{goodSum, inBounds, closedFlavor}
-use Rattle.turtle.specs.declared.AB.{AB}
-use Rattle.turtle.specs.declared.corner.CornerAnswer.{CornerAnswer}
-use Rattle.turtle.specs.Plane.{ab, origin, _⊕_, neg, thrice, doubled}
-use Rattle.turtle.specs.Corners.{cornerSum, cornerSumOf}
-use Rattle.turtle.specs.Answers.{saidCorner}
-use Rattle.turtle.proofs.PlaneLaws.{⊕-idr, neg-origin, thrice-origin, thrice-⊕, neg-⊕, ⊕-assoc}
-use Rattle.turtle.proofs.CornerLaws.{pair-is}
-use Rattle.grammar.specs.Tests.{equalAB}
-use Rattle.tables.specs.Descent.{offsetAt, sumAt, flavorAt, follow}
+use Rattle.triple.specs.Refusals.{Told, told, refused, numberOf, refuse}
+use Rattle.triple.specs.Answers.{saidFlavor}
+use Rattle.triple.specs.Triples.{goodSum, inBounds, closedFlavor, flavorOf}
+use Rattle.a5.proofs.Spots.{Spot, spot}
+use Rattle.a5.proofs.FootprintLaws.{spot-is}
+use Rattle.a5.proofs.Axioms.{tripleAt, spotAt, bounds-wedge, triple-spot}
+use Rattle.a5.proofs.Once.{position, position-small}
 use Rattle.lsystem.specs.declared.Position.{Position}
-use Rattle.lsystem.specs.declared.lookup.Trail.{Trail}
-use Rattle.lsystem.specs.A5Table.{a5Table}
-use Rattle.lsystem.specs.Cells.{isShifted, positionOf}
-use Rattle.lsystem.specs.Cells as Cells
-use Rattle.lsystem.specs.Lookup.{_⊖_, childState, chosen, matching, seek}
-use Rattle.lsystem.specs.Trails.{nearer, trailed, lastDigit, ended, unmoved, start, lookedUp, Close}
-use Rattle.lsystem.proofs.Axioms.{first, shift}
-use Rattle.lsystem.proofs.Once.{position}
-use Rattle.lsystem.proofs.LookupLaws.{seek-position, seek-flavor}
-use Rattle.lsystem.proofs.Sought.{Sought, Small, sought, sought-small, sought-down, sought-follow, sought-leaf, sought-flavor}
+use Rattle.lsystem.specs.declared.tiles.Spot as Code
+use Rattle.lsystem.specs.declared.tiles.Trail.{Trail}
+use Rattle.lsystem.specs.Cells.{isBackward, placeOf, seek, positionOf}
+use Rattle.lsystem.specs.Tiles.{onTile, trailed, Narrow}
 use Rattle.lsystem.proofs.CellLaws.{axiomIn, six}
-use Rattle.lsystem.proofs.CellCode.{axiom-state, axiom-state-small}
-use Rattle.lsystem.proofs.Numbering.{numbers, seek-placed}
+use Rattle.lsystem.proofs.CellCode.{side-small}
+use Rattle.lsystem.proofs.CellAnswers.{place-is}
+use Rattle.lsystem.proofs.Numbering.{only-finds, seek-placed}
+use Rattle.lsystem.proofs.TileLaws.{tileAbove, position-trailed}
 
--- ---- a difference of corner pairs
-less-origin : (p : AB) → p ⊖ origin ≡ p
-unfolding _⊖_
-less-origin p = rw neg-origin (⊕-idr p)
+-- ---- a triple in bounds by its spot
+module _ (n : ℕ) (t : Triple) (b : inBounds (suc n) t ≡ true) where
+  column : t .x ≡ pos (spotAt n t .x + 1) -ℤ pos (2 ^ suc n)
+  unfolding tripleAt
+  column = sym (ap (λ t. t .x) (triple-spot n t b)) ∙ ap (λ m. pos (spotAt n t .x + 1) -ℤ pos m) (sym (twice-power n))
 
-less-both : (p v w : AB) → (p ⊖ thrice v) ⊖ thrice w ≡ p ⊖ thrice (v ⊕ w)
-unfolding _⊖_
-less-both p v w = rw (thrice-⊕ v w, neg-⊕ (thrice v) (thrice w)) (⊕-assoc p (neg (thrice v)) (neg (thrice w)))
+  row : t .y ≡ pos (spotAt n t .y)
+  unfolding tripleAt
+  row = sym (ap (λ t. t .y) (triple-spot n t b))
 
--- ---- the trail is the table's lookup
-last-is : (q : Trail) → matching (q .state) (q .rest) < 4 → lastDigit q ≡ matching (q .state) (q .rest)
-unfolding lastDigit matching
-last-is q h = cases (leaf 0) (leaf 1) (leaf 2) (leaf 3) h
-  where
-    leaf : ℕ → Bool
-    leaf d = equalAB (q .rest) (sumAt a5Table (q .state) d)
+  slant : t .z ≡ negℤ (pos (spotAt n t .g))
+  unfolding tripleAt
+  slant = sym (ap (λ t. t .z) (triple-spot n t b))
 
-    cases : (a b c d : Bool) → cond a 0 (cond b 1 (cond c 2 (cond d 3 4))) < 4 → _≡_ {A = ℕ} (cond a 0 (cond b 1 (cond c 2 3))) (cond a 0 (cond b 1 (cond c 2 (cond d 3 4))))
-    cases true b c d h = refl
-    cases false true c d h = refl
-    cases false false true d h = refl
-    cases false false false true h = refl
-    cases false false false false h = let z : ⊥ = omega arith in absurd z
+  small : n ≤ 29 → (spotAt n t .x < 2 ^ 30) × ((spotAt n t .y < 2 ^ 30) × (spotAt n t .g < 2 ^ 30))
+  small l =
+      let w = bounds-wedge n t b in
+      let p : 2 ^ n ≤ 2 ^ 29 = N.pow-le-pow-right {n = 2} (omega arith) l in
+      (omega (arith, w .wedge-x, p), (omega (arith, w .wedge-y, p), omega (arith, w .wedge-g, p)))
 
--- what it ends at
-record Found (n : ℕ) (q : Trail) (v p : AB) : Type 0 where
-  digits : 4 * trailed n q .s + lastDigit (trailed n q) ≡ q .s * 4 ^ suc n + seek n (q .state) v p
-  flavor : flavorAt a5Table (trailed n q .state) (lastDigit (trailed n q)) ≡ follow a5Table n v (q .state) (seek n (q .state) v p) .flavor
+pub record Spotted (r : ℕ) (t : Triple) : Type 0 where
+  pub spot-x : t .x ≡ pos (spotAt (r - 1) t .x + 1) -ℤ pos (2 ^ r)
+  pub spot-y : t .y ≡ pos (spotAt (r - 1) t .y)
+  pub spot-z : t .z ≡ negℤ (pos (spotAt (r - 1) t .g))
+  pub small : (spotAt (r - 1) t .x < 2 ^ 30) × ((spotAt (r - 1) t .y < 2 ^ 30) × (spotAt (r - 1) t .g < 2 ^ 30))
 
-found : (n : ℕ) (q : Trail) (v p : AB) → Sought n (q .state) v p → q .rest ≡ p ⊖ thrice v → Found n q v p
-unfolding trailed seek nearer
-found zero q v p i e =
-    let l : lastDigit q ≡ matching (q .state) (p ⊖ thrice v) = last-is q (rw e (sought-leaf i)) ∙ ap (matching (q .state)) e in
-    record { digits = omega (arith, l); flavor = ap (flavorAt a5Table (q .state)) l ∙ sym (sought-flavor i) }
-found (suc n) q v p i e =
-    let d = chosen n (q .state) (q .rest) in
-    let w = doubled n (offsetAt a5Table (q .state) d) in
-    let g = found n (nearer n q) (v ⊕ w) p (rw e (sought-down i)) (ap (λ u. u ⊖ thrice w) e ∙ less-both p v w) in
-    let four : 4 * 4 ^ suc n ≡ 4 ^ suc (suc n) = omega arith in
-    record {
-      digits = rw (← e) (g .digits ∙ digit-gather (q .s) d (4 ^ suc n) _ ∙ ap (λ m. q .s * m + (d * 4 ^ suc n + seek n (childState (q .state) d) (v ⊕ w) p)) four);
-      flavor = g .flavor ∙ rw e (sym (ap (λ l. l .flavor) (sought-follow i)));
-    }
+pub spotted : (r : ℕ) (t : Triple) → (0 < r) × ((r ≤ 30) × (inBounds r t ≡ true)) → Spotted r t
+spotted zero t h = absurd (N.not-suc-le-zero (h .0))
+spotted (suc n) t h =
+    let e : suc n - 1 ≡ n = omega arith in
+    let b = h .1 .1 in
+    record { spot-x = rw e (column n t b); spot-y = rw e (row n t b); spot-z = rw e (slant n t b); small = rw e (small n t b (omega (arith, h .1 .0))) }
 
--- ---- where it starts
-unmoved-still : (r : ℕ) (p : AB) → unmoved false r p ≡ p ⊖ origin
-unfolding unmoved
-unmoved-still r p = sym (less-origin p)
+-- what the code works out of a triple
+abbrev read : ℤ → ℤ
+read z = toZ w64 (ofZ w64 z)
 
-unmoved-back : (r : ℕ) (p : AB) → unmoved true r p ≡ p ⊖ ab (pos (12 * 2 ^ r)) (negℤ (pos (12 * 2 ^ r)))
-unfolding unmoved _⊖_ _⊕_ neg
-unmoved-back r p = pair-is refl (ap (λ z. p .b +ℤ z) (sym (negℤ-negℤ (pos (12 * 2 ^ r)))))
+module _ (r : ℕ) (t : Triple) (h : (0 < r) × ((r ≤ 30) × (inBounds r t ≡ true))) where
+  pub column-is : (side : ℤ) → side ≡ pos (2 ^ r) → read (read (read side -ℤ pos 1) +ℤ read (toZ w32 (ofZ w32 (t .x)))) ≡ pos (spotAt (r - 1) t .x)
+  column-is side e =
+      let s = spotted r t h in
+      let vs = v-same e (v-upto (2 ^ r) (2 ^ 30) (side-small r (h .1 .0))) in
+      let vx = v-same (s .spot-x) (v-add (v-upto (spotAt (r - 1) t .x + 1) (2 ^ 30) (omega (arith, s .small .0))) (v-neg (v-upto (2 ^ r) (2 ^ 30) (side-small r (h .1 .0))))) in
+      eq-by (search view depth 14) (v-upto _ (2 ^ 30) (omega (arith, s .small .0))) tt (omega arith)
 
-start-rest : (o r : ℕ) (p : AB) → o ≤ 5 → unmoved (isShifted o) r p ≡ p ⊖ shift (axiomIn o) r
-unfolding axiomIn isShifted
-start-rest o r p h =
-    let still = unmoved-still r p in
-    let back = unmoved-back r p in
-    six (λ o. unmoved (isShifted o) r p ≡ p ⊖ shift (axiomIn o) r) still still still still back back o h
+  pub row-is : toZ w32 (ofZ w32 (t .y)) ≡ pos (spotAt (r - 1) t .y)
+  row-is =
+      let s = spotted r t h in
+      kept w32 (s .spot-y) (v-upto _ (2 ^ 30) (omega (arith, s .small .1 .0))) tt
 
--- within 36 times the scale, with 48 times it to come
-within : (n : ℕ) (x : ℤ) → n ≤ 29 → Small (2 ^ n) x → natAbs x + 48 * 2 ^ n ≤ 2 ^ 36
-within n x l s =
-    let m : 2 ^ n ≤ 2 ^ 29 = N.pow-le-pow-right {n = 2} (omega arith) l in
-    let k = pos (36 * 2 ^ n) in
-    omega (arith, abs-parts x, parts-le (s .above), parts-le (s .under), neg-up k, neg-dn k, up-pos (36 * 2 ^ n), dn-pos (36 * 2 ^ n), up-dn x)
+  pub slant-is : read (pos 0 -ℤ read (toZ w32 (ofZ w32 (t .z)))) ≡ pos (spotAt (r - 1) t .g)
+  slant-is =
+      let s = spotted r t h in
+      let vz = v-same (s .spot-z) (v-neg (v-upto (spotAt (r - 1) t .g) (2 ^ 30) (omega (arith, s .small .1 .1)))) in
+      eq-by (search view depth 14) (v-upto _ (2 ^ 30) (omega (arith, s .small .1 .1))) tt (omega arith)
 
-module _ (o n : ℕ) (t : Triple) (h : o ≤ 5) (k : n ≤ 29) (b : inBounds (suc n) t ≡ true) where
-  abbrev target : AB
-  target = cornerSum t ⊖ shift (axiomIn o) (suc n)
+-- a number from 0 up, as a cast asks
+pub cast-of : {z : ℤ} (k : ℕ) → z ≡ pos k → k < 2 ^ 30 → T (nonNeg z) × Fits w64 (natAbs z)
+cast-of k e h = subst (λ z. T (nonNeg z) × Fits w64 (natAbs z)) (sym e) (tt, record { fits = omega arith })
 
-  abbrev at-start : Trail
-  at-start = start o (suc n) (cornerSum t)
+pub cast-is : {x y g : ℤ} (p : Spot) → x ≡ pos (p .x) → y ≡ pos (p .y) → g ≡ pos (p .g) → (p .x < 2 ^ 30) × ((p .y < 2 ^ 30) × (p .g < 2 ^ 30))
+    → Narrow (record { x = natAbs x; y = natAbs y; g = natAbs g }) × (spot (natAbs x) (natAbs y) (natAbs g) ≡ p)
+cast-is p a b c s =
+    let i = ap natAbs a in
+    let j = ap natAbs b in
+    let k = ap natAbs c in
+    (record { x = omega (arith, i); y = omega (arith, j); g = omega (arith, k) }, spot-is i j k)
 
-  seeks : Sought n (at-start .state) origin target
-  unfolding start
-  seeks = rw (sym (axiom-state o h)) (sought (axiomIn o) n t b)
+-- ---- the lookup
+tile-above : (o : ℕ) → o ≤ 5 → tileAbove (axiomIn o) ≡ 112 + o / 2
+unfolding axiomIn
+tile-above = six (λ o. tileAbove (axiomIn o) ≡ 112 + o / 2) refl refl refl refl refl refl
 
-  rest-is : at-start .rest ≡ target ⊖ thrice origin
-  unfolding start
-  rest-is = start-rest o (suc n) (cornerSum t) h ∙ sym (ap (λ v. target ⊖ v) thrice-origin ∙ less-origin target)
+module _ (o n : ℕ) (t : Triple) (h : o ≤ 5) (k : n ≤ 29) (b : inBounds (suc n) t ≡ true) (u : Code.Spot) (e : spot (u .x) (u .y) (u .g) ≡ spotAt n t)
+    (q : Trail) (eq : q ≡ trailed (suc n) u (onTile (112 + o / 2))) (p : ℕ) (ep : p ≡ 4 * q .s + q .tile % 4) where
+  place-found : p ≡ position (axiomIn o) n t
+  place-found =
+      ep
+      ∙ ap (λ (q : Trail). 4 * q .s + q .tile % 4) (eq ∙ ap (λ m. trailed (suc n) u (onTile m)) (sym (tile-above o h)))
+      ∙ position-trailed (axiomIn o) n t b u e
 
-  start-close : Close n 0 at-start
-  unfolding start
-  start-close =
-      let s = sought-small seeks in
-      record { state = axiom-state-small o h; a = rw rest-is (within n _ k (s .0)); b = rw rest-is (within n _ k (s .1)); s = omega arith }
+  place-below : p < 4 ^ suc n
+  place-below = subst (λ m. m < 4 ^ suc n) (sym place-found) (position-small (axiomIn o) n t b)
 
-  -- the digits are the position's, the flavor the closed formula's
-  ended-is : ended (trailed n at-start) ≡ record { s = position (axiomIn o) n t; flavor = closedFlavor (suc n) t }
-  unfolding ended start
-  ended-is =
-      let f = found n at-start origin target seeks rest-is in
-      let state : at-start .state ≡ first (axiomIn o) = sym (axiom-state o h) in
-      let e : 4 * trailed n at-start .s + lastDigit (trailed n at-start) ≡ position (axiomIn o) n t = f .digits ∙ rw state (omega (arith, seek-position (axiomIn o) n t b)) in
-      let g : flavorAt a5Table (trailed n at-start .state) (lastDigit (trailed n at-start)) ≡ pos (closedFlavor (suc n) t) = f .flavor ∙ rw state (seek-flavor (axiomIn o) n t b) in
-      λ i. record { s = e i; flavor = natAbs (g i) }
+  looked-up : (s m : ℕ) (back : Bool) → back ≡ isBackward o → m ≡ 4 ^ suc n → s ≡ cond back (m - 1 - p) p → told (record { s = s; flavor = closedFlavor (suc n) t }) ≡ seek o (suc n) t (4 ^ suc n) 0
+  looked-up s m back eb em es =
+      ap (λ s. told (record { s = s; flavor = closedFlavor (suc n) t })) (place-is o (suc n) p m s back eb em es ∙ ap (placeOf o (suc n)) place-found)
+      ∙ sym (seek-placed o n h k t b)
 
-  looked-up : told (lookedUp o (suc n) (cornerSum t)) ≡ Cells.seek o (suc n) t (4 ^ suc n) 0
-  unfolding lookedUp
-  looked-up = let e : suc n - 1 ≡ n = omega arith in rw (e, ended-is) (sym (seek-placed o n h k t b))
+-- the same, as the code has the resolution
+module _ (o : ℕ) (t : Triple) (u : Code.Spot) (q : Trail) (p : ℕ) (ep : p ≡ 4 * q .s + q .tile % 4) where
+  pub below-at : (r : ℕ) → (o ≤ 5) × ((0 < r) × ((r ≤ 30) × (inBounds r t ≡ true))) → spot (u .x) (u .y) (u .g) ≡ spotAt (r - 1) t → q ≡ trailed r u (onTile (112 + o / 2)) → p < 4 ^ r
+  below-at zero h e eq = absurd (N.not-suc-le-zero (h .1 .0))
+  below-at (suc n) h e eq =
+      let m : suc n - 1 ≡ n = omega arith in
+      place-below o n t (h .0) (omega (arith, h .1 .1 .0)) (h .1 .1 .1) u (e ∙ ap (λ n. spotAt n t) m) q eq p ep
 
--- ---- resolution 0: the search has one cell to try, and finds it
-one : {x y : Position} (here : Bool) (n : ℕ) → cond here (told x) (refused n) ≡ told y → told x ≡ cond here (told x) (refused n)
-one true n e = refl
-one false n e = let z : _≡_ {A = ℕ} 0 1 = cc in absurd (omega arith)
-
-only : (o : ℕ) (t : Triple) → o ≤ 5 → inBounds 0 t ≡ true → told (record { s = 0; flavor = 2 }) ≡ Cells.seek o 0 t (4 ^ 0) 0
-unfolding Cells.seek Cells.cellAt
-only o t h b = one (Cells.same (record { x = pos 0; y = pos 0; z = pos 0 }) t) (numberOf Is.Bounds) (numbers o 0 h (omega arith) .finds t b)
-
--- ---- the same at every resolution, by whether it is 0
-module _ (o : ℕ) (t : Triple) (h : o ≤ 5) where
-  only-at : (r : ℕ) → inBounds r t ≡ true → r ≤ 0 → told (record { s = 0; flavor = 2 }) ≡ Cells.seek o r t (4 ^ r) 0
-  only-at zero b e = only o t h b
-  only-at (suc r) b e = let z : ⊥ = omega arith in absurd z
-
-  close-at : (r : ℕ) → r ≤ 30 → inBounds r t ≡ true → 0 < r → Close (r - 1) 0 (start o r (cornerSum t))
-  close-at zero k b z = absurd (N.not-suc-le-zero z)
-  close-at (suc n) k b z = let e : suc n - 1 ≡ n = omega arith in rw e (start-close o n t h (omega arith) b)
-
-  found-at : (r : ℕ) → r ≤ 30 → inBounds r t ≡ true → 0 < r → told (lookedUp o r (cornerSum t)) ≡ Cells.seek o r t (4 ^ r) 0
-  found-at zero k b z = absurd (N.not-suc-le-zero z)
-  found-at (suc n) k b z = looked-up o n t h (omega arith) b
+  pub found-at : (r : ℕ) → (o ≤ 5) × ((0 < r) × ((r ≤ 30) × (inBounds r t ≡ true))) → spot (u .x) (u .y) (u .g) ≡ spotAt (r - 1) t → q ≡ trailed r u (onTile (112 + o / 2))
+      → (s m : ℕ) (back : Bool) → back ≡ isBackward o → m ≡ 4 ^ r → s ≡ cond back (m - 1 - p) p → told (record { s = s; flavor = closedFlavor r t }) ≡ seek o r t (4 ^ r) 0
+  found-at zero h e eq = absurd (N.not-suc-le-zero (h .1 .0))
+  found-at (suc n) h e eq =
+      let m : suc n - 1 ≡ n = omega arith in
+      looked-up o n t (h .0) (omega (arith, h .1 .1 .0)) (h .1 .1 .1) u (e ∙ ap (λ n. spotAt n t) m) q eq p ep
 
 -- ---- the answer, by the tests in their order
-abbrev answered : Bool → Bool → Bool → Bool → Told Position → Told Position
-answered far facing good within next = refuse far Is.Resolution (refuse facing Is.Orientation (refuse (not good) Is.Sum (refuse (not within) Is.Bounds next)))
+abbrev answered : {A : Type 0} → Bool → Bool → Told A → Told A
+answered good within next = refuse (not good) Is.Sum (refuse (not within) Is.Bounds next)
 
--- what a corner sum's answer tells of the triple's sum
-sum-told : (good : Bool) (p q : AB) → told p ≡ refuse (not good) Is.Sum (told q) → (good ≡ true) × (p ≡ q)
-sum-told true p q e = (refl, (cc))
-sum-told false p q e = let z : _≡_ {A = ℕ} 0 1 = cc in absurd (omega arith)
+refused-alike : (x : ℕ) (y : Told Position) (n : ℕ) (good within : Bool) → refused n ≡ answered good within (told x) → refused n ≡ answered good within y
+refused-alike x y n true true e = let z : _≡_ {A = ℕ} 0 1 = cc in absurd (omega arith)
+refused-alike x y n true false e = let z : n ≡ numberOf Is.Bounds = cc in ap refused z
+refused-alike x y n false within e = let z : n ≡ numberOf Is.Sum = cc in ap refused z
 
-sum-refused : (good : Bool) (n : ℕ) (q : AB) → refused n ≡ refuse (not good) Is.Sum (told q) → good ≡ false
-sum-refused true n q e = let z : _≡_ {A = ℕ} 0 1 = cc in absurd (omega arith)
-sum-refused false n q e = refl
+told-within : {x y : ℕ} (good within : Bool) → told x ≡ answered good within (told y) → (good ≡ true) × ((within ≡ true) × (x ≡ y))
+told-within true true e = (refl, (refl, (cc)))
+told-within true false e = let z : _≡_ {A = ℕ} 0 1 = cc in absurd (omega arith)
+told-within false within e = let z : _≡_ {A = ℕ} 0 1 = cc in absurd (omega arith)
 
 module _ (o r : ℕ) (t : Triple) where
-  abbrev sought-for : Told Position
-  sought-for = Cells.seek o r t (4 ^ r) 0
-
   pub position-far : 30 < r → refused (numberOf Is.Resolution) ≡ positionOf o r t
   unfolding positionOf
   position-far h = simp (lt-ltb 30 r h)
@@ -191,42 +163,37 @@ module _ (o r : ℕ) (t : Triple) where
     unfolding positionOf
     position-facing k = simp (le-ltb 30 r h, lt-ltb 5 o k)
 
-    module _ (k : o ≤ 5) (a : CornerAnswer) (ea : saidCorner a ≡ cornerSumOf t) where
-      tested : (good within : Bool) → goodSum t ≡ good → inBounds r t ≡ within → answered false false good within sought-for ≡ positionOf o r t
+    module _ (k : o ≤ 5) (a : FlavorAnswer) (ea : saidFlavor a ≡ flavorOf r t) where
+      known : saidFlavor a ≡ answered (goodSum t) (inBounds r t) (told (closedFlavor r t))
+      unfolding flavorOf
+      known = ea ∙ simp (le-ltb 30 r h)
+
+      searched : answered (goodSum t) (inBounds r t) (seek o r t (4 ^ r) 0) ≡ positionOf o r t
       unfolding positionOf
-      tested good within eg ew = λ i. answered (sym (le-ltb 30 r h) i) (sym (le-ltb 5 o k) i) (sym eg i) (sym ew i) sought-for
+      searched = simp (le-ltb 30 r h, le-ltb 5 o k)
 
-      pub position-no-sum : {e : Refusal} → a ≡ CornerAnswer.Refused e → refused (numberOf Is.Sum) ≡ positionOf o r t
-      unfolding cornerSumOf
-      position-no-sum m = tested false (inBounds r t) (sum-refused (goodSum t) _ (cornerSum t) (ap saidCorner (sym m) ∙ ea)) refl
+      pub position-refused : {e : Refusal} → a ≡ FlavorAnswer.Refused e → refused (numberOf e) ≡ positionOf o r t
+      position-refused {e} m = refused-alike _ _ (numberOf e) (goodSum t) (inBounds r t) (ap saidFlavor (sym m) ∙ known) ∙ searched
 
-      module _ {p : AB} (m : a ≡ CornerAnswer.Sum p) where
-        sum-is : (goodSum t ≡ true) × (p ≡ cornerSum t)
-        unfolding cornerSumOf
-        sum-is = sum-told (goodSum t) p (cornerSum t) (ap saidCorner (sym m) ∙ ea)
+      module _ {f : ℕ} (m : a ≡ FlavorAnswer.Flavor f) where
+        within : (goodSum t ≡ true) × ((inBounds r t ≡ true) × (f ≡ closedFlavor r t))
+        within = told-within (goodSum t) (inBounds r t) (ap saidFlavor (sym m) ∙ known)
 
-        module _ {b : Bool} (eb : b ≡ (leb r 30 && inBounds r t)) where
-          bounds-are : b ≡ inBounds r t
-          bounds-are = eb ∙ ap (λ f. f && inBounds r t) (le-leb r 30 h)
+        pub lookup-asks : 0 < r → (o ≤ 5) × ((0 < r) × ((r ≤ 30) × (inBounds r t ≡ true)))
+        lookup-asks z = (k, (z, (h, within .1 .0)))
 
-          pub position-out : not b ≡ true → refused (numberOf Is.Bounds) ≡ positionOf o r t
-          position-out n = tested true false (sum-is .0) (sym bounds-are ∙ not-true b n)
+        pub position-found : {s : ℕ} → told (record { s = s; flavor = closedFlavor r t }) ≡ seek o r t (4 ^ r) 0 → told (record { s = s; flavor = f }) ≡ positionOf o r t
+        position-found {s} e =
+            ap (λ f. told (record { s = s; flavor = f })) (within .1 .1)
+            ∙ e
+            ∙ (λ i. answered (sym (within .0) i) (sym (within .1 .0) i) (seek o r t (4 ^ r) 0))
+            ∙ searched
 
-          module _ (n : not b ≡ false) where
-            in-bounds : inBounds r t ≡ true
-            in-bounds = sym bounds-are ∙ not-false b n
+        pub position-only : r ≤ 0 → told (record { s = 0; flavor = f }) ≡ positionOf o r t
+        position-only z = position-found (only r h (within .1 .0) z)
+          where
+            only : (r : ℕ) → r ≤ 30 → inBounds r t ≡ true → r ≤ 0 → told (record { s = 0; flavor = closedFlavor r t }) ≡ seek o r t (4 ^ r) 0
+            only zero l b z = sym (only-finds o t b)
+            only (suc n) l b z = let y : ⊥ = omega arith in absurd y
 
-            searched : sought-for ≡ positionOf o r t
-            searched = tested true true (sum-is .0) in-bounds
-
-            pub position-only : r ≤ 0 → told (record { s = 0; flavor = 2 }) ≡ positionOf o r t
-            position-only z = only-at o t k r in-bounds z ∙ searched
-
-            module _ (z : 0 < r) where
-              pub lookup-asks : (o ≤ 5) × ((0 < r) × ((r ≤ 30) × Close (r - 1) 0 (start o r p)))
-              lookup-asks = (k, (z, (h, rw (sum-is .1) (close-at o t k r h in-bounds z))))
-
-              pub position-found : (f : Position) → f ≡ lookedUp o r p → told f ≡ positionOf o r t
-              position-found f e = ap told (e ∙ ap (lookedUp o r) (sum-is .1)) ∙ found-at o t k r h in-bounds z ∙ searched
-
-pub ruleset positions = (position-far, position-facing, position-no-sum, position-out, position-only, position-found)
+pub ruleset positions = (position-far, position-facing, position-refused, position-found, position-only)

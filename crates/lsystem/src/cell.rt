@@ -1,24 +1,16 @@
 // From position to cell.
 ghost use mathlib.Core.Path.{_≡_};
-ghost use mathlib.Core.Bool.{true, cond};
-ghost use Prim.Native.Nat.{_<_, _≤_, _-_, _^_};
-ghost use lib.IntN.{pos, natAbs, _+ℤ_, _-ℤ_};
-ghost use mir.Syntax.{w32};
-ghost use mir.Val.{SFits};
-ghost use Rattle.turtle.specs.Plane.{origin};
-ghost use Rattle.tables.specs.Descent.{follow};
-ghost use Rattle.lsystem.specs.A5Table.{a5Table};
+ghost use mathlib.Core.Bool.{cond};
+ghost use Prim.Native.Nat.{_<_, _≤_, _+_, _-_, _^_};
+ghost use lib.IntN.{pos, negℤ, _-ℤ_};
+ghost use Rattle.a5.proofs.Axioms.{Shape};
 ghost use Rattle.lsystem.specs.Answers.{saidCell};
 ghost use Rattle.lsystem.specs.Cells.{cellOf, isBackward, isShifted};
-ghost use Rattle.lsystem.specs.Descents.{axiomState, movedBy, namedBy};
-ghost use Rattle.lsystem.specs.Reach.{Movable};
+ghost use Rattle.lsystem.specs.Walks.{axiomState, cellBy};
 use crate::Named;
-use crate::a5::leaf_of;
-use crate::descent::descend;
+use crate::walk::walk;
 use triple::Triple;
 use triple::refusal::Refusal;
-use turtle::AB;
-use turtle::corner::TripleAnswer;
 
 pub enum CellAnswer {
     Cell(Named),
@@ -26,7 +18,7 @@ pub enum CellAnswer {
 }
 
 // How an orientation walks: its axiom's state, from which end, and whether its triples are moved.
-pub(crate) struct Recipe {
+pub struct Recipe {
     pub state: u64,
     pub backward: bool,
     pub shifted: bool,
@@ -34,10 +26,16 @@ pub(crate) struct Recipe {
 
 // Read off words and not by arms: where orientations are mixed, a branch by them costs as much as a short
 // descent.
-pub(crate) fn recipe_of(orientation: u8) -> Recipe
-    requires { ⌜ orientation ≤ 5 ⌝ }
+pub fn recipe_of(orientation: u8) -> Recipe
     ensures { λ w. ⌜ (w .state ≡ axiomState orientation) × ((w .backward ≡ isBackward orientation) × (w .shifted ≡ isShifted orientation)) ⌝ }
 {
+    if orientation > 5 {
+        return Recipe {
+            state: 2,
+            backward: false,
+            shifted: false,
+        };
+    }
     let o = orientation as u64;
     Recipe {
         state: (0x224400 >> (4 * o)) % 16,
@@ -65,33 +63,7 @@ pub(crate) fn place_from(backward: bool, cells: u64, s: u64) -> u64
     s
 }
 
-pub(crate) struct Drawn {
-    pub sum: AB,
-    pub flavor: u8,
-}
-
-fn drawn_at(state: u64, levels: u64, place: u64) -> Drawn
-    requires { ⌜ (state < 28) × (levels ≤ 30) ⌝ }
-    ensures { λ d. ⌜ (d .sum ≡ follow a5Table levels origin state place .sum) × (pos (d .flavor) ≡ follow a5Table levels origin state place .flavor) ⌝ }
-{
-    let p = descend(state, levels, place);
-    let l = leaf_of(p.state, place % 4);
-    let sum = AB::new(thrice_plus(p.a, l.a), thrice_plus(p.b, l.b));
-    Drawn {
-        sum,
-        flavor: l.flavor,
-    }
-}
-
-// A corner sum adds three corners, so a place counts three times.
-fn thrice_plus(place: i64, leaf: i64) -> i64
-    requires { ⌜ (natAbs place ≤ 2 ^ 34) × (natAbs leaf ≤ 28) ⌝ }
-    ensures { λ z. ⌜ z ≡ place +ℤ place +ℤ place +ℤ leaf ⌝ }
-{
-    3 * place + leaf
-}
-
-// 2^r, by which a shifted orientation moves its triples.
+// 2^r, the count of the rows.
 pub(crate) fn side_of(resolution: u8) -> i64
     requires { ⌜ resolution ≤ 30 ⌝ }
     ensures { λ n. ⌜ n ≡ pos (2 ^ resolution) ⌝ }
@@ -99,42 +71,25 @@ pub(crate) fn side_of(resolution: u8) -> i64
     (1u64 << resolution) as i64
 }
 
-fn plus(v: i32, by: i64) -> i32
-    requires { ⌜ (natAbs by ≤ 2 ^ 30) × SFits w32 (v +ℤ by) ⌝ }
-    ensures { λ z. ⌜ z ≡ v +ℤ by ⌝ }
+// The triple whose spot is (x, y, g).
+fn triple_at(resolution: u8, x: u64, y: u64, g: u64) -> Triple
+    requires { ⌜ (resolution ≤ 30) × ((x < 2 ^ 30) × ((y < 2 ^ 30) × (g < 2 ^ 30))) ⌝ }
+    ensures { λ t. ⌜ t ≡ record { x = pos (x + 1) -ℤ pos (2 ^ resolution); y = pos y; z = negℤ (pos g) } ⌝ }
 {
-    (v as i64 + by) as i32
+    let column = (x + 1) as i64 - side_of(resolution);
+    let up = -(g as i64);
+    Triple::new(column as i32, y as i32, up as i32)
 }
 
-fn moved(t: Triple, resolution: u8) -> Triple
-    requires { ⌜ (resolution ≤ 30) × (SFits w32 (t .x -ℤ pos (2 ^ resolution)) × SFits w32 (t .y +ℤ pos (2 ^ resolution))) ⌝ }
-    ensures { λ u. ⌜ u ≡ movedBy true resolution t ⌝ }
+// The cell at a place of an axiom's curve.
+fn cell_at(state: u64, resolution: u8, place: u64) -> Named
+    requires { ⌜ (0 < resolution) × ((resolution ≤ 30) × Shape state) ⌝ }
+    ensures { λ c. ⌜ c ≡ cellBy state (resolution - 1) place ⌝ }
 {
-    let side = side_of(resolution);
-    let back = -side;
-    Triple::new(plus(t.x, back), plus(t.y, side), t.z)
-}
-
-fn named(recipe: Recipe, resolution: u8, drawn: Drawn) -> CellAnswer
-    requires { ⌜ (resolution ≤ 30) × Movable (recipe .shifted) resolution (drawn .sum) ⌝ }
-    ensures { λ a. ⌜ saidCell a ≡ namedBy (recipe .shifted) resolution (drawn .sum) (drawn .flavor) ⌝ }
-{
-    let sum = drawn.sum;
-    let answer = sum.to_triple();
-    match answer {
-        TripleAnswer::At(t) => {
-            if recipe.shifted {
-                return CellAnswer::Cell(Named {
-                    triple: moved(t, resolution),
-                    flavor: drawn.flavor,
-                });
-            }
-            CellAnswer::Cell(Named {
-                triple: t,
-                flavor: drawn.flavor,
-            })
-        }
-        TripleAnswer::Refused(e) => CellAnswer::Refused(e),
+    let l = walk(state, (resolution - 1) as u64, place).land(place % 4);
+    Named {
+        triple: triple_at(resolution, l.x, l.y, l.g),
+        flavor: l.flavor,
     }
 }
 
@@ -160,6 +115,5 @@ pub fn s_to_cell(orientation: u8, resolution: u8, s: u64) -> CellAnswer
     }
     let recipe = recipe_of(orientation);
     let place = place_from(recipe.backward, cells, s);
-    let d = drawn_at(recipe.state, (resolution - 1) as u64, place);
-    named(recipe, resolution, d)
+    CellAnswer::Cell(cell_at(recipe.state, resolution, place))
 }

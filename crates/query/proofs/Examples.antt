@@ -12,7 +12,7 @@ use Rattle.turtle.specs.Corners.{cornerSum, candidate, has, tripleOf}
 use Rattle.grammar.specs.Words.{upper, mirrored, reversed, wordOf, expandOnce}
 use Rattle.grammar.specs.Texts.{rowsOf, fieldsOf, lineOf, linesOf}
 use Rattle.grammar.specs.Curves.{passes, strokes, drawing}
-use Rattle.lsystem.specs.A5.{a5Text, a5}
+use Rattle.a5.specs.A5.{a5Text, a5}
 use Rattle.lsystem.specs.Cells.{axiomOf, isBackward, isShifted, placeOf, drawnCell, shifted, named, cellAt, cellOf, seek, positionOf}
 use Rattle.curve.specs.Points.{near, floor, fraction, parity, settled, pointOf}
 use Rattle.query.specs.Numbers.{digitOf, isDecimal, upTo, i32, f64, digits, natural, integer}

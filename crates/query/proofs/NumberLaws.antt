@@ -1,11 +1,12 @@
--- Number words, in the form of what their readers have in hand: a byte's digit by the tests of its range; digits of any base one by one, where the number read so far only grows.
+-- Number words, in the form of what their readers have in hand: a byte that is no digit by the arms that it passed; digits of any base one by one, where the number read so far only grows.
 -- Assumes nothing.
 use mathlib.Core.Path.{_≡_, refl, sym, ap, _∙_}
 use mathlib.Core.Bool.{Bool, true, false, not, _&&_, _||_, or-true}
 use mathlib.Core.List.{List, [], _∷_}
-use Prim.Native.Nat.{ℕ, suc, _+_, _-_, _*_, _/_, _^_, _≤_, _<_}
+use Prim.Native.Nat.{ℕ, zero, suc, _+_, _-_, _*_, _/_, _^_, _≤_, _<_}
 use native.Mathlib.Nat.{le-refl, le-trans, le-mul-of-pos-right, mul-le-mul-right, mul-assoc, mul-one, suc-mul, pow-zero, pow-succ', le-div-iff-mul-le, div-lt-iff-lt-mul}
 use native.Mathlib.Numerals.{add-one}
+use native.Mathlib.Decide.{decLt}
 use native.Mathlib.Omega.{arith}
 use borrow.Author.Tests.{lt-ltb, le-ltb, lt-leb, le-leb, eq-eqb, ne-eqb, ltb-true, ltb-false}
 use lib.Dec.{ltb, eqb}
@@ -25,28 +26,36 @@ use Rattle.query.specs.declared.number.NaturalWord.{NaturalWord}
 use Rattle.query.specs.Answers.{saidNatural}
 
 -- ---- a byte's digit
-module _ (b : ℕ) where
-  pub digit-low : b < 48 → 16 ≡ digitOf b
-  unfolding digitOf
-  digit-low h = let k : b < 65 = omega arith in simp (lt-leb 48 b h, lt-leb 65 b k)
+-- b is none of n numbers from a first one on, nor what was asked before, in the form of a match's rest
+abbrev Apart : ℕ → ℕ → ℕ → Type 0 → Type 0
+Apart b first zero before = before
+Apart b first (suc n) before = Apart b first n before × (b ≡ first + n → ⊥)
 
-  pub digit-decimal : 48 ≤ b → b ≤ 57 → b - 48 ≡ digitOf b
-  unfolding digitOf
-  digit-decimal h k = simp (le-leb 48 b h, le-leb b 57 k)
+apart : (b first n : ℕ) (before : Type 0) → Apart b first n before → before × (first ≤ b → first + n ≤ b)
+apart b first zero before h = (h, λ l. omega arith)
+apart b first (suc n) before h =
+    let i = apart b first n before (h .0) in
+    let j = h .1 in
+    (i .0, λ l. let k = i .1 l in omega arith)
 
-  pub digit-between : 48 ≤ b → 57 < b → b < 65 → 16 ≡ digitOf b
-  unfolding digitOf
-  digit-between h k l = simp (le-leb 48 b h, lt-leb b 57 k, lt-leb 65 b l)
-
-  pub digit-letter : 48 ≤ b → 57 < b → 65 ≤ b → b ≤ 70 → b - 55 ≡ digitOf b
-  unfolding digitOf
-  digit-letter h k l m = simp (le-leb 48 b h, lt-leb b 57 k, le-leb 65 b l, le-leb b 70 m)
-
-  pub digit-high : 48 ≤ b → 57 < b → 65 ≤ b → 70 < b → 16 ≡ digitOf b
-  unfolding digitOf
-  digit-high h k l m = simp (le-leb 48 b h, lt-leb b 57 k, le-leb 65 b l, lt-leb b 70 m)
-
-pub ruleset digit-laws = (digit-low, digit-decimal, digit-between, digit-letter, digit-high)
+pub other-byte : (b : ℕ) → Apart b 65 6 (Apart b 48 10 Unit) → 16 ≡ digitOf b
+unfolding digitOf
+other-byte b h =
+    let letters = apart b 65 6 (Apart b 48 10 Unit) h in
+    let decimals = apart b 48 10 Unit (letters .0) in
+    elim (decLt b 48) [
+      | yes l ↦ let m : b < 65 = omega arith in simp (lt-leb 48 b l, lt-leb 65 b m)
+      | no l ↦
+          let k : 57 < b = let d = decimals .1 (omega arith) in omega arith in
+          let l' : 48 ≤ b = omega arith in
+          elim (decLt b 65) [
+            | yes m ↦ simp (le-leb 48 b l', lt-leb b 57 k, lt-leb 65 b m)
+            | no m ↦
+                let m' : 65 ≤ b = omega arith in
+                let n : 70 < b = let d = letters .1 m' in omega arith in
+                simp (le-leb 48 b l', lt-leb b 57 k, le-leb 65 b m', lt-leb b 70 n)
+          ]
+    ]
 
 -- ---- digits of any base
 grows : (base : ℕ) → 0 < base → (v : ℕ) (w : List ℕ) → v ≤ valueAfter base v w

@@ -8,7 +8,7 @@ use triple::refusal::Refusal;
 
 pub mod answer;
 pub mod line;
-mod number;
+pub mod number;
 pub mod print;
 
 // Each names an orientation and a resolution, and then a position, a triple or a point of two f64.

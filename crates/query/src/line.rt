@@ -32,7 +32,8 @@ fn end(line: &[u8], at: usize) -> usize
     i
 }
 
-fn count(line: &[u8]) -> usize
+// How many words a line has, some of them empty where spaces meet; one at least.
+pub fn count(line: &[u8]) -> usize
     ensures { λ n. ⌜ n ≡ length (fieldsOf (now (line .entry))) ⌝ }
 {
     let mut n: usize = 1;
@@ -65,7 +66,7 @@ fn start(line: &[u8], k: usize) -> usize
 }
 
 // Word k; empty where there is none.
-fn word(line: &[u8], k: usize) -> &[u8]
+pub fn word(line: &[u8], k: usize) -> &[u8]
     ensures { λ w. ⌜ now w ≡ getD (fieldsOf (now (line .entry))) k [] ⌝ }
 {
     let a = start(line, k);

@@ -18,7 +18,8 @@ use Rattle.turtle.proofs.WordLaws.{final-append, cells-append, cells-from, plac
 use Rattle.grammar.specs.Curves.{turned, letters}
 use Rattle.grammar.proofs.Grammars.{Grammar, drawn, netOf, Upright, Accepted}
 use Rattle.grammar.proofs.GrammarLaws.{letters-append, final-heading, drawn-nil, drawn-left, drawn-right, drawn-letter, drawn-zero, drawn-suc, Level, token-final, token-length}
-use Rattle.tables.specs.Children.{Child, met, noChild, noCell}
+use Rattle.tables.specs.declared.Child.{Child}
+use Rattle.tables.specs.Children.{met, noChild, noCell}
 
 -- where child d of a rule starts, r passes down
 unfoldable pub startOf : Grammar → ℕ → List Child → ℕ → AB

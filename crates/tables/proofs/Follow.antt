@@ -41,7 +41,7 @@ module _
   unfolding offset children grammarOf
   offset-is m d b = offset-after 1 0 (grammarOf ls .rule m) d (ok .faced m b)
 
-  child-bound : (m d : ℕ) → m < length (tokenBytes ls) → d < 4 → child ls m d .token < length (tokenBytes ls)
+  pub child-bound : (m d : ℕ) → m < length (tokenBytes ls) → d < 4 → child ls m d .token < length (tokenBytes ls)
   unfolding children grammarOf
   child-bound m d b h = child-token (grammarOf ls) 0 (grammarOf ls .rule m) d (ok .faced m b) (rw (ok .four m b) h)
 

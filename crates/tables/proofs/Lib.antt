@@ -2,4 +2,17 @@ pub mod Descents
 pub mod Entries
 pub mod Follow
 pub mod Drawing
+pub mod SizeLaws
+pub mod ReadableLaws
+pub mod HornerLaws
 pub mod Examples
+pub mod SourceLaws
+pub mod MeetingLaws
+pub mod LeafLaws
+pub mod FrameLaws
+pub mod RowLaws
+pub mod StateLaws
+pub mod CompileLaws
+pub mod CompileDetermined
+pub mod Front
+pub mod Compiled

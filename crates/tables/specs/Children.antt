@@ -11,13 +11,10 @@ use Rattle.turtle.specs.Plane.{origin, _⊕_, signed, facing}
 use Rattle.turtle.specs.Walk.{Sym, left, right, letter, turtle, cells}
 use Rattle.grammar.specs.Words.{wordOf}
 use Rattle.grammar.specs.Texts.{Line}
+use Rattle.tables.specs.declared.Child.{Child}
 use Rattle.grammar.specs.Curves.{rules, strokes, net, letterOf, childrenOf}
 
--- a child is met at heading 0, or flipped: at heading 3
-pub record Child : Type 0 where
-  pub token : ℕ
-  pub flip : Bool
-
+-- the children along a rule: each at heading 0, or flipped: at heading 3
 unfoldable pub met : ℕ → List (Sym ℕ) → List Child
 met h [] = []
 met h (left ∷ w) = met ((h + 1) % 6) w

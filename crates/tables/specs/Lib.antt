@@ -4,3 +4,9 @@ pub mod Classifier
 pub mod Table
 pub mod Descent
 pub mod Verdicts
+pub mod Sources
+pub mod Meetings
+pub mod Leaves
+pub mod Frames
+pub mod Rows
+pub mod Compiler

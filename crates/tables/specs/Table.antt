@@ -10,10 +10,13 @@ use Rattle.turtle.specs.declared.AB.{AB}
 use Rattle.turtle.specs.declared.letter.Flavor.{Flavor}
 use Rattle.turtle.specs.declared.walk.Cell.{Cell}
 use Rattle.turtle.specs.Plane.{signed, flipped}
+use Rattle.classifier.specs.declared.Separator.{Separator}
+use Rattle.classifier.specs.Splits.{separators, choice}
+use Rattle.classifier.specs.Parts.{noSeparator}
 use Rattle.grammar.specs.Texts.{Line}
 use Rattle.grammar.specs.Curves.{tokenBytes}
 use Rattle.tables.specs.Children.{child, offset, leaf}
-use Rattle.tables.specs.Classifier.{Separator, tree, separators, choice}
+use Rattle.tables.specs.Classifier.{tree}
 use Rattle.tables.specs.Descent.{Leaf}
 
 abbrev pub bit : Bool → ℕ
@@ -34,9 +37,6 @@ flavorNumber Flavor.None = negsuc 0
 -- a drawn cell, as a table has it
 abbrev pub leafOf : Cell → Leaf
 leafOf c = record { sum = c .sum; flavor = flavorNumber (c .flavor) }
-
-abbrev pub noSeparator : Separator
-noSeparator = record { x = pos 0; y = pos 0; c = pos 0 }
 
 abbrev pub three : Separator → List ℤ
 three s = s .x ∷ s .y ∷ s .c ∷ []

@@ -2,10 +2,11 @@
 use mathlib.Core.Bool.{Bool, true, false, not, _&&_}
 use mathlib.Core.List.{List}
 use Prim.Native.Nat.{ℕ, _+_}
+use Rattle.classifier.specs.Splits.{whole}
 use Rattle.grammar.specs.Texts.{Line, linesOf}
 use Rattle.grammar.specs.Curves.{tokenOf}
 use Rattle.grammar.specs.Tests.{Verdict, fine, first, faultAt, textTests}
-use Rattle.tables.specs.Classifier.{tree, whole}
+use Rattle.tables.specs.Classifier.{tree}
 
 -- a token's children split cleanly, in either frame
 abbrev pub splits : List Line → ℕ → Bool

@@ -1,4 +1,4 @@
--- 2 ^ r times and three times a corner pair are products of its coordinates, and 2 ^ r times passes through sums: both by the product's law for a sum.
+-- 2 ^ r times a corner pair is the product of its coordinates, and passes through sums and through three times: by the product's law for a sum.
 use mathlib.Core.Path.{_≡_, refl, sym, _∙_, ap}
 use Prim.Native.Nat.{ℕ, zero, suc, _+_, _^_}
 use native.Mathlib.Omega.{arith}
@@ -15,9 +15,6 @@ once x = let vx = v-var x in eq-by vx (search view) tt (omega arith)
 twice : (r : ℕ) (x : ℤ) → pos (2 ^ r) *ℤ x +ℤ pos (2 ^ r) *ℤ x ≡ pos (2 ^ suc r) *ℤ x
 twice r x = let e : 2 ^ r + 2 ^ r ≡ 2 ^ suc r = omega arith in sym (*ℤ-distrib-r (pos (2 ^ r)) (pos (2 ^ r)) x) ∙ ap (λ m. pos m *ℤ x) e
 
-three-times : (x : ℤ) → x +ℤ x +ℤ x ≡ pos 3 *ℤ x
-three-times x = let vx = v-var x in eq-by (search view) (search view) tt (omega arith)
-
 pub doubled-a : (r : ℕ) (p : AB) → doubled r p .a ≡ pos (2 ^ r) *ℤ p .a
 unfolding doubled _⊕_
 doubled-a zero p = once (p .a)
@@ -27,14 +24,6 @@ pub doubled-b : (r : ℕ) (p : AB) → doubled r p .b ≡ pos (2 ^ r) *ℤ p .b
 unfolding doubled _⊕_
 doubled-b zero p = once (p .b)
 doubled-b (suc r) p = rw (doubled-b r p) (twice r (p .b))
-
-pub thrice-a : (p : AB) → thrice p .a ≡ pos 3 *ℤ p .a
-unfolding thrice _⊕_
-thrice-a p = three-times (p .a)
-
-pub thrice-b : (p : AB) → thrice p .b ≡ pos 3 *ℤ p .b
-unfolding thrice _⊕_
-thrice-b p = three-times (p .b)
 
 pub doubled-⊕ : (r : ℕ) (p q : AB) → doubled r (p ⊕ q) ≡ doubled r p ⊕ doubled r q
 unfolding doubled

@@ -1,13 +1,20 @@
 -- The lattice of corner pairs, with the rotation by 60 degrees, (a, b) to (-b, a + b).
-use mathlib.Core.Bool.{Bool, true, false, not}
+use mathlib.Core.Bool.{Bool, true, false, not, _&&_}
 use mathlib.Core.List.{[], _∷_}
 use Prim.Native.Nat.{ℕ, zero, suc}
 use lib.IntN.{ℤ, pos, negsuc, negℤ, _+ℤ_}
+use lib.Signed.{leZ}
 use Rattle.whole.specs.Tests.{_≤?_, pass}
 use Rattle.turtle.specs.declared.AB.{AB}
 
 abbrev pub ab : ℤ → ℤ → AB
 ab a b = record { a = a; b = b }
+
+abbrev pub equal : ℤ → ℤ → Bool
+equal x y = leZ x y && leZ y x
+
+abbrev pub equalAB : AB → AB → Bool
+equalAB p q = equal (p .a) (q .a) && equal (p .b) (q .b)
 
 unfoldable pub origin : AB
 origin = ab (pos 0) (pos 0)

@@ -1,8 +1,8 @@
 -- `hb_child`: the child's values and its node's positions are written, or the refusal's number is answered.
 use mathlib.Core.Path.{sym, ap, _∙_}
 use borrow.Author.Needs.{needs}
-use Rattle.lsystem.specs.NodeAnswers.{saidChild}
-use Rattle.lsystem.proofs.NodeMotifs.{child-motif}
+use Rattle.nodes.specs.NodeAnswers.{saidChild}
+use Rattle.nodes.proofs.NodeMotifs.{child-motif}
 use Rattle.capi.specs.Calls.{stepValues}
 use Rattle.capi.proofs.LentLaws.{both-told, both-refused}
 use Rattle.capi.proofs.hb_child.Statement.{statement}

@@ -1,10 +1,10 @@
 -- `hb_node`: the node's values and positions are written, or the refusal's number is answered; the triple is that of the numbers given.
 use mathlib.Core.Path.{sym, ap, _∙_}
 use borrow.Author.Needs.{needs}
-use Rattle.lsystem.specs.declared.Reached.{Reached}
-use Rattle.lsystem.specs.Nodes.{nodeOf}
-use Rattle.lsystem.specs.NodeAnswers.{saidReached}
-use Rattle.lsystem.proofs.NodeMotifs.{reached-motif}
+use Rattle.nodes.specs.declared.Reached.{Reached}
+use Rattle.nodes.specs.Nodes.{nodeOf}
+use Rattle.nodes.specs.NodeAnswers.{saidReached}
+use Rattle.nodes.proofs.NodeMotifs.{reached-motif}
 use Rattle.capi.specs.Calls.{nodeValues}
 use Rattle.capi.proofs.LentLaws.{both-told, both-refused}
 use Rattle.capi.proofs.SignedLaws.{triple-made}

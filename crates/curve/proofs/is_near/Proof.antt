@@ -1,4 +1,5 @@
 -- `is_near` meets its contract: two comparisons are the range.
+use mathlib.Core.Path.{refl}
 use lib.Ieee.{ofBits, neg}
 use Rattle.curve.proofs.NearLaws.{near-by, below-range}
 use Rattle.curve.proofs.is_near.Statement.{statement}
@@ -6,7 +7,7 @@ use Rattle.curve.proofs.is_near.Tie as tie
 
 returns : tie.Need-returns
 unfolding ofBits neg
-returns c = near-by (c .before .args .x) (c .if1 .taken)
+returns c = near-by (c .before .args .x) _ (c .if1 .taken) refl
 
 returns-2 : tie.Need-returns-2
 unfolding ofBits neg

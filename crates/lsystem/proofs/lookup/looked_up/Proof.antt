@@ -1,53 +1,54 @@
--- `lookup::looked_up` is the definition's way: the recipe's start, down to the leaf, and the place from its end.
+-- `lookup::looked_up`: the digits on the way from the tile above the axiom are those of the place.
+use mathlib.Core.Path.{sym, subst}
+use Prim.Native.Nat.{_<_}
+use Rattle.lsystem.proofs.PositionLaws.{below-at, found-at}
 use borrow.Author.Needs.{needs}
-use Rattle.lsystem.proofs.LookupCode.{lookups, unmoved-asks, start-close}
 use Rattle.lsystem.proofs.lookup.looked_up.Statement.{statement}
 use Rattle.lsystem.proofs.lookup.looked_up.Tie as tie
 
-recipe-of-requires : tie.Need-recipe-of-requires
-recipe-of-requires c κs = search needs
+cast-above : tie.Need-cast-above
+cast-above c = search needs
 
-unmoved-requires : tie.Need-unmoved-requires
-unmoved-requires c κs =
-    let a = c .before .args in
-    let p = c .before .pre in
-    unmoved-asks (a .orientation) (a .resolution) (a .p) (p .1 .1 .0) (p .1 .0) (p .1 .1 .1) _ (c .recipe-of .ensures .1 .1)
+add-above : tie.Need-add-above
+add-above c = search needs
 
-sub-to-leaf : tie.Need-sub-to-leaf
-sub-to-leaf c = search needs
+spot-of-requires : tie.Need-spot-of-requires
+spot-of-requires c κs = search needs
 
-cast-to-leaf : tie.Need-cast-to-leaf
-cast-to-leaf c = search needs
-
-to-leaf-requires : tie.Need-to-leaf-requires
-to-leaf-requires c κs =
-    let a = c .before .before .args in
-    let p = c .before .before .pre in
-    let w = c .before .recipe-of .ensures in
-    start-close (a .orientation) (a .resolution) (a .p) (p .1 .1 .0) (p .1 .0) (p .1 .1 .1) _ (w .1 .1) _ (w .0) _ (c .unmoved .ensures)
+seek-requires : tie.Need-seek-requires
+seek-requires c κs = search needs
 
 end-requires : tie.Need-end-requires
-end-requires c κs = search (needs, lookups)
+end-requires c κs = search needs
+
+recipe-of-requires : tie.Need-recipe-of-requires
+recipe-of-requires c κs = search needs
 
 cells-at-requires : tie.Need-cells-at-requires
 cells-at-requires c κs = search needs
 
 place-from-requires : tie.Need-place-from-requires
-place-from-requires c κs = search (needs, lookups)
+place-from-requires c κs =
+    let d = c .before .before .before .before .before in
+    let e = c .before .before in
+    subst (λ m. e .end .result < m) (sym (c .cells-at .ensures)) (below-at (d .args .orientation) (d .args .t) _ _ _ (e .end .ensures) (d .args .resolution) (d .pre) (e .before .before .spot-of .ensures .1) (e .before .seek .ensures .1))
 
 returns : tie.Need-returns
-returns c = search (needs, lookups)
+returns c =
+    let d = c .before .before .before .before .before .before in
+    let e = c .before .before .before in
+    found-at (d .args .orientation) (d .args .t) _ _ _ (e .end .ensures) (d .args .resolution) (d .pre) (e .before .before .spot-of .ensures .1) (e .before .seek .ensures .1) _ _ _ (c .before .before .recipe-of .ensures .1 .0) (c .before .cells-at .ensures) (c .place-from .ensures)
 
 pub looked-up-spec : {M : Type 1} → statement M
 looked-up-spec =
     tie.close
     (tie.spec
-    recipe-of-requires
-    unmoved-requires
-    sub-to-leaf
-    cast-to-leaf
-    to-leaf-requires
+    cast-above
+    add-above
+    spot-of-requires
+    seek-requires
     end-requires
+    recipe-of-requires
     cells-at-requires
     place-from-requires
     returns)

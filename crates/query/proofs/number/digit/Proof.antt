@@ -1,26 +1,29 @@
--- A byte's digit, by the tests of its range.
-use Rattle.query.proofs.NumberLaws.{digit-laws}
-use borrow.Author.Needs.{needs}
+-- A byte's digit: each arm by the byte that it matched, the rest by `other-byte`.
+use mathlib.Core.Path.{_≡_, sym, ap}
+use Rattle.query.specs.Numbers.{digitOf}
+use Rattle.query.proofs.NumberLaws.{other-byte}
 use Rattle.query.proofs.number.digit.Statement.{statement}
 use Rattle.query.proofs.number.digit.Tie as tie
 
-returns : tie.Need-returns
-returns c = search (needs, digit-laws)
-
-returns-2 : tie.Need-returns-2
-returns-2 c = search (needs, digit-laws)
-
-returns-3 : tie.Need-returns-3
-returns-3 c = search (needs, digit-laws)
-
-sub-result : tie.Need-sub-result
-sub-result c = search needs
-
-returns-4 : tie.Need-returns-4
-returns-4 c = search (needs, digit-laws)
-
-returns-5 : tie.Need-returns-5
-returns-5 c = search (needs, digit-laws)
-
 pub digit-spec : {M : Type 1} → statement M
-digit-spec = tie.close (tie.spec returns returns-2 returns-3 sub-result returns-4 returns-5)
+unfolding digitOf
+digit-spec =
+    tie.close
+    (tie.spec
+    (λ c. ap digitOf (sym (c .match .keys1)))
+    (λ c. ap digitOf (sym (c .match .keys2)))
+    (λ c. ap digitOf (sym (c .match .keys3)))
+    (λ c. ap digitOf (sym (c .match .keys4)))
+    (λ c. ap digitOf (sym (c .match .keys5)))
+    (λ c. ap digitOf (sym (c .match .keys6)))
+    (λ c. ap digitOf (sym (c .match .keys7)))
+    (λ c. ap digitOf (sym (c .match .keys8)))
+    (λ c. ap digitOf (sym (c .match .keys9)))
+    (λ c. ap digitOf (sym (c .match .keys10)))
+    (λ c. ap digitOf (sym (c .match .keys11)))
+    (λ c. ap digitOf (sym (c .match .keys12)))
+    (λ c. ap digitOf (sym (c .match .keys13)))
+    (λ c. ap digitOf (sym (c .match .keys14)))
+    (λ c. ap digitOf (sym (c .match .keys15)))
+    (λ c. ap digitOf (sym (c .match .keys16)))
+    (λ c. other-byte _ (c .match .rest)))

@@ -1,0 +1,54 @@
+-- A5's text is accepted, and the compiler's table of it is the one that the code has: both definitions are computed.
+use mathlib.Core.Path.{_≡_, refl, ap, _∙_}
+use mathlib.Core.List.{List, _++_}
+use Prim.Native.Nat.{ℕ, _*_, _≤_}
+use native.Mathlib.Omega.{arith}
+use lib.IntN.{ℤ}
+use lib.ListN.{length, drop}
+use Rattle.turtle.specs.Plane.{origin, _⊕_, neg, rot, rots, signed, thrice, facing, flipped}
+use Rattle.turtle.specs.Letters.{toggled, letters, strokeOf}
+use Rattle.turtle.specs.Walk.{symbolOf, symbolsOf, move, corner, turnedFlavor, cell, cells, final}
+use Rattle.classifier.specs.Hulls.{insert, sorted, cross, popped, chained, hull}
+use Rattle.classifier.specs.Splits.{lineThrough, value, side, treeOf, whole, collected, separators, choice}
+use Rattle.grammar.specs.Words.{upper, mirrored, reversed, wordOf, expandOnce}
+use Rattle.grammar.specs.Texts.{rowsOf, fieldsOf, shaped, lineOf, linesOf}
+use Rattle.grammar.specs.Curves as Curves
+use Rattle.grammar.specs.Curves.{passes, strokes, drawing, net, tokenBytes, letterOf, tokenOf, childOf, childrenOf, turned, upright}
+use Rattle.grammar.specs.Tests.{fine, badShape, badMotif, badRule, badCount, badHeading, badDraw, badTurns, badNet, lineTests, textTests}
+use Rattle.tables.specs.Children.{met, children, offsetAfter, offset, leaves}
+use Rattle.tables.specs.Hulls.{footprint, hullOf}
+use Rattle.tables.specs.Classifier.{placed, polygon, tree}
+use Rattle.tables.specs.Table.{stateOf, row, tableOf}
+use Rattle.tables.specs.Verdicts.{badSplit, splitTests, verdict}
+use Rattle.tables.specs.Compiler.{states, tableFor, compiledTo, afterCompile}
+use Rattle.tables.proofs.Entries.{length-table}
+use Rattle.tables.proofs.CompileDetermined.{compiled-states, compiled-table}
+use Rattle.a5.specs.A5.{a5Text}
+use Rattle.a5.specs.A5Table.{a5Table}
+
+computed : (verdict a5Text ≡ fine) × (tableOf (linesOf a5Text) ≡ a5Table)
+unfolding origin _⊕_ neg rot rots signed thrice facing flipped toggled letters strokeOf symbolOf symbolsOf move corner turnedFlavor cell cells final upper mirrored reversed wordOf expandOnce rowsOf fieldsOf shaped lineOf linesOf passes strokes drawing net tokenBytes letterOf tokenOf childOf childrenOf turned Curves.letters upright badShape badMotif badRule badCount badHeading badDraw badTurns badNet lineTests textTests met children offsetAfter offset leaves footprint insert sorted cross popped chained hull hullOf placed polygon lineThrough value side treeOf tree whole collected separators choice stateOf row tableOf badSplit splitTests verdict a5Text a5Table
+computed = (refl, refl)
+
+pub a5-accepted : verdict a5Text ≡ fine
+a5-accepted = computed .0
+
+pub a5-table-is : tableOf (linesOf a5Text) ≡ a5Table
+a5-table-is = computed .1
+
+-- ---- so the compiler, on A5's text, writes A5's table: 28 states, and behind them what was there
+module _ (table : List ℤ) (room : 1148 ≤ length table) where
+  long : length a5Table ≡ 1148
+  unfolding a5Table
+  long = refl
+
+  fits : length (tableFor a5Text) ≤ length table
+  fits = omega (arith, ap length a5-table-is, long)
+
+  pub a5-states : compiledTo a5Text table ≡ states 28
+  a5-states =
+      let tokens : 2 * length (tokenBytes (linesOf a5Text)) ≡ 28 = omega (arith, length-table (linesOf a5Text), ap length a5-table-is, long) in
+      compiled-states a5Text a5-accepted table fits ∙ ap states tokens
+
+  pub a5-compiled : afterCompile a5Text table ≡ a5Table ++ drop 1148 table
+  a5-compiled = compiled-table a5Text a5-accepted table fits ∙ (rw (a5-table-is, long) refl)

@@ -1,0 +1,12 @@
+pub mod A5Compiled
+pub mod A5Entries
+pub mod Footprints
+pub mod Spots
+pub mod FootprintChecks
+pub mod FootprintLaws
+pub mod Places
+pub mod Axioms
+pub mod Flavors
+pub mod Once
+pub mod Separators
+pub mod LookupLaws

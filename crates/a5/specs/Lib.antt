@@ -1,0 +1,3 @@
+pub mod A5
+pub mod A5Table
+pub mod Lookup

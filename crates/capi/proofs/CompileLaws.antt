@@ -1,0 +1,94 @@
+-- A text's table and its number of states, written into two slices: the compiler is lent all of the table where the other slice has room for
+-- the number, and nothing where it has none.
+-- Assumes nothing.
+use mathlib.Core.Path.{_≡_, refl, sym, ap, _∙_}
+use mathlib.Core.Logic.{⊎-elim}
+use mathlib.Core.Bool.{cond}
+use mathlib.Core.List.{List, _∷_, _++_, append-nil}
+use Prim.Native.Nat.{ℕ, _*_, _<_, _≤_}
+use native.Mathlib.Nat.{eq-zero-or-pos}
+use native.Mathlib.Omega.{arith}
+use lib.Dec.{ltb}
+use lib.IntN.{ℤ}
+use lib.ListN.{length, take, drop, take-append-drop}
+use lib.Seq.{length-take-le, take-length, drop-length}
+use borrow.Author.Tests.{le-ltb, lt-ltb}
+use Rattle.triple.specs.declared.refusal.Refusal.the-variants.{Room}
+use Rattle.triple.specs.Refusals.{told, refused, numberOf}
+use Rattle.grammar.specs.Texts.{linesOf}
+use Rattle.grammar.specs.Curves.{tokenBytes}
+use Rattle.grammar.specs.Tests.{fine, fault}
+use Rattle.tables.specs.Compiler.{Compiled, states, faulty, tableFor, compiledTo, afterCompile}
+use Rattle.tables.specs.Compiler as Compiler
+use Rattle.tables.specs.Verdicts.{verdict}
+use Rattle.tables.proofs.Entries.{length-table}
+use Rattle.tables.proofs.CompileLaws.{when-states, when-refused, when-faulty, some-tokens}
+use Rattle.capi.specs.Lent.{statusOf, afterCall, firstOf, secondOf}
+use Rattle.capi.specs.Calls.{countValues, compileCall, lineOr}
+use Rattle.capi.proofs.LentLaws.{Called, CalledBoth, put-known, none-written, both-whole, first-short, second-short}
+
+-- what the status, the table and the other slice have to be
+abbrev pub CompileCalled : List ℕ → List ℤ → List ℕ → ℕ → List ℤ → List ℕ → Type 0
+CompileCalled text table out n x y =
+    (n ≡ statusOf (firstOf (compileCall text) out) table) × (x ≡ afterCall (firstOf (compileCall text) out) table) × (y ≡ afterCall (lineOr (verdict text) (secondOf (compileCall text) table)) out)
+
+module _ (text : List ℕ) (table : List ℤ) (out : List ℕ) {n : ℕ} (within : n ≤ length table) (lent : n ≡ cond (ltb (length out) 1) 0 (length table)) where
+  lent-none : length out ≡ 0 → n ≡ 0
+  lent-none z = lent ∙ rw z refl
+
+  lent-all : 0 < length out → n ≡ length table
+  lent-all h = lent ∙ rw (le-ltb (length out) 1 h) refl
+
+  size : length (take n table) ≡ n
+  size = length-take-le n table within
+
+  -- an accepted text
+  module _ (p : verdict text ≡ fine) where
+    call-is : compileCall text ≡ told (tableFor text, countValues (2 * length (tokenBytes (linesOf text))))
+    unfolding compileCall
+    call-is = rw p refl
+
+    some-table : 0 < length (tableFor text)
+    some-table = omega (arith, length-table (linesOf text), some-tokens text p)
+
+    by-fine : {k : ℕ} {x : List ℤ} {y : List ℕ} → CalledBoth (compileCall text) table out k x y → CompileCalled text table out k x y
+    by-fine c = (c .0, c .1, c .2 ∙ rw p refl)
+
+  module _ {after : List ℤ} (leaves : after ≡ afterCompile text (take n table)) where
+    pub compile-states : {k : ℕ} → states k ≡ compiledTo text (take n table) → {status : ℕ} {counted : List ℕ} → Called (told (countValues k)) out status counted
+        → CompileCalled text table out status (after ++ drop n table) counted
+    unfolding afterCompile
+    compile-states {k} e c =
+        let w = when-states text (take n table) e in
+        let p = w .0 in
+        let fits : length (tableFor text) ≤ n = omega (arith, w .1 .0, size) in
+        let place : 0 < length out = ⊎-elim (λ z. absurd (omega (arith, lent-none z, some-table p))) (λ h. h) (eq-zero-or-pos (length out)) in
+        let all : n ≡ length table = lent-all place in
+        let filled : after ≡ tableFor text ++ drop (length (tableFor text)) (take n table) = leaves ∙ rw (p, le-ltb (length (take n table)) (length (tableFor text)) (w .1 .0)) refl in
+        let x : after ++ drop n table ≡ tableFor text ++ drop (length (tableFor text)) table = rw (filled, all, take-length table, drop-length table, append-nil) refl in
+        let b = both-whole table out (call-is p) (omega arith) place in
+        let q = put-known (countValues k) out place c in
+        by-fine p (q .0 ∙ b .0, x ∙ b .1, q .1 ∙ ap (λ (k : ℕ). k ∷ drop 1 out) (w .1 .1) ∙ b .2)
+
+    pub compile-refused : {e : ℕ} → Compiler.refused e ≡ compiledTo text (take n table) → {status : ℕ} → status ≡ e → CompileCalled text table out status (after ++ drop n table) out
+    unfolding afterCompile
+    compile-refused {e} f {status} s =
+        let w = when-refused text (take n table) f in
+        let p = w .0 in
+        let same : after ≡ take n table = leaves ∙ rw (p, lt-ltb (length (take n table)) (length (tableFor text)) (w .1 .0)) refl in
+        let kept : after ++ drop n table ≡ table = ap (λ (l : List ℤ). l ++ drop n table) same ∙ take-append-drop n table in
+        rw kept
+        (by-fine p
+        (⊎-elim (λ z. second-short table out (call-is p) (omega arith) (s ∙ w .1 .1))
+        (λ h. first-short table out (call-is p) (omega (arith, w .1 .0, lent-all h, size)) (s ∙ w .1 .1))
+        (eq-zero-or-pos (length out))))
+
+    pub compile-faulty : {e line : ℕ} → faulty e line ≡ compiledTo text (take n table) → {status : ℕ} → status ≡ e → {m : ℕ} {counted : List ℕ} → Called (told (countValues line)) out m counted
+        → CompileCalled text table out status (after ++ drop n table) counted
+    unfolding afterCompile compileCall
+    compile-faulty {e} {line} f {status} s {m} {counted} c =
+        let p = when-faulty text (take n table) f in
+        let same : after ≡ take n table = leaves ∙ rw p refl in
+        let kept : after ++ drop n table ≡ table = ap (λ (l : List ℤ). l ++ drop n table) same ∙ take-append-drop n table in
+        let b = none-written table out {call = compileCall text} {e = e} (rw p refl) s in
+        rw kept (b .0, b .1, c .1 ∙ rw p refl)

@@ -1,0 +1,12 @@
+pub mod ReadLaws
+pub mod ListLaws
+pub mod HullLaws
+pub mod HullSizes
+pub mod ChainLaws
+pub mod LineLaws
+pub mod PolygonLaws
+pub mod SetLaws
+pub mod EdgeLaws
+pub mod TreeLaws
+pub mod GatherLaws
+pub mod Determined

@@ -1,0 +1,4 @@
+pub mod Hulls
+pub mod Splits
+pub mod Parts
+pub mod Sets

@@ -1,0 +1,38 @@
+-- `nets::passed` writes the pass, since there is room for it.
+use Rattle.grammar.proofs.NetLaws.{pass-written, pass-refused}
+use borrow.Author.Needs.{needs}
+use Rattle.grammar.proofs.nets.passed.Statement.{statement}
+use Rattle.grammar.proofs.nets.passed.Tie as tie
+
+expand-once-requires : tie.Need-expand-once-requires
+expand-once-requires c κs = search needs
+
+enum-known-n : tie.Need-enum-known-n
+enum-known-n c = search needs
+
+enum-told : tie.Need-enum-told
+enum-told c = search needs
+
+same-length : tie.Need-same-length
+same-length c = search needs
+
+returns : tie.Need-returns
+returns c = search (needs, pass-written)
+
+same-length-2 : tie.Need-same-length-2
+same-length-2 c = search needs
+
+returns-2 : tie.Need-returns-2
+returns-2 c = search (needs, pass-refused)
+
+pub passed-spec : {M : Type 1} → statement M
+passed-spec =
+    tie.close
+    (tie.spec
+    expand-once-requires
+    enum-known-n
+    enum-told
+    same-length
+    returns
+    same-length-2
+    returns-2)

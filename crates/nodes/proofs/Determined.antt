@@ -1,0 +1,39 @@
+-- Each contract of this crate's operations allows one result alone. What an answer says has a left inverse: so two answers that say the same are the same.
+-- Assumes nothing.
+use mathlib.Core.Path.{_≡_, refl, sym, ap, _∙_}
+use mathlib.Core.Bool.{Bool}
+use Prim.Native.Nat.{ℕ}
+use Rattle.triple.specs.declared.Triple.{Triple}
+use Rattle.triple.proofs.Determined.{one-to-one, determined, numbered, answerOf}
+use Rattle.nodes.specs.declared.Node.{Node}
+use Rattle.nodes.specs.declared.NodeAnswer.{NodeAnswer}
+use Rattle.nodes.specs.declared.ReachedAnswer.{ReachedAnswer}
+use Rattle.nodes.specs.declared.ChildAnswer.{ChildAnswer}
+use Rattle.nodes.specs.Nodes.{goodNode, childOf, nodeOf}
+use Rattle.nodes.specs.NodeAnswers.{axiomNodeOf, saidNode, saidReached, saidChild}
+
+-- ---- the answers
+node-back : (a : NodeAnswer) → answerOf NodeAnswer.Node NodeAnswer.Refused (saidNode a) ≡ a
+node-back (NodeAnswer.Node n) = refl
+node-back (NodeAnswer.Refused e) = ap NodeAnswer.Refused (numbered e)
+
+reached-back : (a : ReachedAnswer) → answerOf ReachedAnswer.Reached ReachedAnswer.Refused (saidReached a) ≡ a
+reached-back (ReachedAnswer.Reached n) = refl
+reached-back (ReachedAnswer.Refused e) = ap ReachedAnswer.Refused (numbered e)
+
+child-back : (a : ChildAnswer) → answerOf ChildAnswer.Child ChildAnswer.Refused (saidChild a) ≡ a
+child-back (ChildAnswer.Child c) = refl
+child-back (ChildAnswer.Refused e) = ap ChildAnswer.Refused (numbered e)
+
+-- ---- the operations
+pub is-good-determined : (n : Node) (a b : Bool) → a ≡ goodNode n → b ≡ goodNode n → a ≡ b
+is-good-determined n a b p q = p ∙ sym q
+
+pub axiom-node-determined : (o : ℕ) (a b : NodeAnswer) → saidNode a ≡ axiomNodeOf o → saidNode b ≡ axiomNodeOf o → a ≡ b
+axiom-node-determined o = determined saidNode (one-to-one saidNode (answerOf NodeAnswer.Node NodeAnswer.Refused) node-back)
+
+pub node-determined : (o r : ℕ) (t : Triple) (a b : ReachedAnswer) → saidReached a ≡ nodeOf o r t → saidReached b ≡ nodeOf o r t → a ≡ b
+node-determined o r t = determined saidReached (one-to-one saidReached (answerOf ReachedAnswer.Reached ReachedAnswer.Refused) reached-back)
+
+pub child-determined : (o r : ℕ) (n : Node) (d : ℕ) (a b : ChildAnswer) → saidChild a ≡ childOf o r n d → saidChild b ≡ childOf o r n d → a ≡ b
+child-determined o r n d = determined saidChild (one-to-one saidChild (answerOf ChildAnswer.Child ChildAnswer.Refused) child-back)

@@ -1,0 +1,10 @@
+pub mod A5Reads
+pub mod DescentLaws
+pub mod NodePositions
+pub mod NodeLaws
+pub mod ChildLaws
+pub mod NodeWalk
+pub mod NodeBelow
+pub mod NodeMotifs
+pub mod Determined
+pub mod Examples

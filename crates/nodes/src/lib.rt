@@ -1,0 +1,320 @@
+// Answers for nodes and for the child steps that go down A5's curve from one to the next. A node's positions
+// are f64: they are tested whole from their bits, worked on as i64 and returned by exact casts. Which
+// position names a cell is `lsystem`'s; the table that a step reads is `a5`'s.
+ghost use mathlib.Core.Path.{_≡_};
+ghost use mathlib.Core.Bool.{true, cond};
+ghost use Prim.Native.Nat.{_-_, _^_, _<_, _≤_};
+ghost use lib.Dec.{eqb};
+ghost use lib.IntN.{pos, natAbs};
+ghost use Rattle.turtle.specs.Plane.{ab};
+ghost use Rattle.tables.specs.Table.{stateOf};
+ghost use Rattle.lsystem.specs.Cells.{flavorIn};
+ghost use Rattle.nodes.specs.Descents.{movedBy, namedBy};
+ghost use Rattle.nodes.specs.Nodes.{goodPosition, goodNode, isFlipped, spot, node, childCell, below, bounded, childOf, nodeAt, nodeOf};
+ghost use Rattle.nodes.specs.NodeAnswers.{axiomNodeOf, saidNode, saidReached, saidChild, saidBounded};
+use crate::descent::descend;
+use crate::words::leaf_of;
+use crate::words::step_of;
+use lsystem::Named;
+use lsystem::Position;
+use lsystem::cell::recipe_of;
+use lsystem::lookup::PositionAnswer;
+use lsystem::lookup::triple_to_s;
+use triple::Triple;
+use triple::in_bounds_wide;
+use triple::refusal::Refusal;
+use turtle::AB;
+use turtle::corner::TripleAnswer;
+
+pub mod descent;
+pub mod words;
+
+// The state of the descent below a cell, from which its children's digits are read. Good nodes have a
+// motif of at most 13, a flip of 0 or 1, and positions that are whole multiples of 4, at most 2^36 in
+// size, and not negative zero.
+pub struct Node {
+    pub motif: u64,
+    pub flip: u8,
+    pub pos_a: f64,
+    pub pos_b: f64,
+}
+
+// What a child step answers: the child's cell, and the node below it.
+pub struct ChildStep {
+    pub cell: Named,
+    pub node: Node,
+}
+
+// What a lookup of a cell's node answers: the cell's position, and the node below it.
+pub struct Reached {
+    pub position: Position,
+    pub node: Node,
+}
+
+// A cell as it is drawn: its corner sum and its flavor.
+struct Drawn {
+    sum: AB,
+    flavor: u8,
+}
+
+pub enum NodeAnswer {
+    Node(Node),
+    Refused(Refusal),
+}
+
+pub enum ReachedAnswer {
+    Reached(Reached),
+    Refused(Refusal),
+}
+
+pub enum ChildAnswer {
+    Child(ChildStep),
+    Refused(Refusal),
+}
+
+impl Node {
+    pub const GREATEST_MOTIF: u64 = 13;
+    // The largest size of a position.
+    pub const LIMIT: f64 = 68719476736.0;
+
+    // The one place where a node is made. Its positions may be beyond the limit, as those below a good
+    // node can be, and are exact all the same.
+    pub(crate) fn new(motif: u64, flip: u8, a: i64, b: i64) -> Self
+        requires { ⌜ (flip ≤ 1) × ((natAbs a ≤ 2 ^ 38) × (natAbs b ≤ 2 ^ 38)) ⌝ }
+        ensures { λ n. ⌜ n ≡ node motif (eqb flip 1) (ab a b) ⌝ }
+    {
+        Self {
+            motif,
+            flip,
+            pos_a: a as f64,
+            pos_b: b as f64,
+        }
+    }
+
+    pub fn is_good(self) -> bool
+        ensures { λ g. ⌜ g ≡ goodNode self ⌝ }
+    {
+        if self.motif > Self::GREATEST_MOTIF {
+            return false;
+        }
+        if self.flip > 1 {
+            return false;
+        }
+        if !is_position(self.pos_a) {
+            return false;
+        }
+        is_position(self.pos_b)
+    }
+
+    // The child with a digit of the curve, that is the last digit of its position: its cell at the
+    // resolution, which is the child's, and the node below it.
+    pub fn child(self, digit: u8, resolution: u8, orientation: u8) -> ChildAnswer
+        ensures { λ a. ⌜ saidChild a ≡ childOf orientation resolution self digit ⌝ }
+    {
+        if resolution == 0 {
+            return ChildAnswer::Refused(Refusal::Resolution);
+        }
+        if resolution > Triple::GREATEST_RESOLUTION {
+            return ChildAnswer::Refused(Refusal::Resolution);
+        }
+        if orientation > 5 {
+            return ChildAnswer::Refused(Refusal::Orientation);
+        }
+        if !self.is_good() {
+            return ChildAnswer::Refused(Refusal::Node);
+        }
+        if digit > 3 {
+            return ChildAnswer::Refused(Refusal::Digit);
+        }
+        let recipe = recipe_of(orientation);
+        let d = digit_from(recipe.backward, digit);
+        let found = cell_within(recipe.shifted, resolution, self.child_cell(d));
+        let Bounded::In(cell) = found else {
+            return ChildAnswer::Refused(Refusal::Bounds);
+        };
+        ChildAnswer::Child(ChildStep {
+            cell,
+            node: self.below(d),
+        })
+    }
+
+    fn state(self) -> u64
+        requires { ⌜ goodNode self ≡ true ⌝ }
+        ensures { λ k. ⌜ k ≡ stateOf (self .motif) (isFlipped self) ⌝ }
+    {
+        2 * self.motif + self.flip as u64
+    }
+
+    fn spot(self) -> AB
+        requires { ⌜ goodNode self ≡ true ⌝ }
+        ensures { λ p. ⌜ p ≡ spot self ⌝ }
+    {
+        AB::new(self.pos_a as i64, self.pos_b as i64)
+    }
+
+    // The leaf of a digit, where the node is.
+    fn child_cell(self, digit: u64) -> Drawn
+        requires { ⌜ (goodNode self ≡ true) × (digit < 4) ⌝ }
+        ensures { λ c. ⌜ (c .sum ≡ childCell self digit .sum) × (c .flavor ≡ flavorIn (childCell self digit .flavor)) ⌝ }
+    {
+        let at = self.spot();
+        let leaf = leaf_of(self.state(), digit);
+        Drawn {
+            sum: AB::new(3 * at.a + leaf.a, 3 * at.b + leaf.b),
+            flavor: leaf.flavor,
+        }
+    }
+
+    // One level down, the position doubles.
+    fn below(self, digit: u64) -> Self
+        requires { ⌜ (goodNode self ≡ true) × (digit < 4) ⌝ }
+        ensures { λ n. ⌜ n ≡ below self digit ⌝ }
+    {
+        let at = self.spot();
+        let step = step_of(self.state(), digit);
+        Self::new(
+            step.state / 2,
+            (step.state % 2) as u8,
+            2 * at.a + step.a,
+            2 * at.b + step.b,
+        )
+    }
+}
+
+// A whole multiple of 4, at most the limit in size, and not negative zero: cut to a whole number and
+// cast back, it has the bits that it had.
+fn is_position(x: f64) -> bool
+    ensures { λ p. ⌜ p ≡ goodPosition x ⌝ }
+{
+    if x >= -Node::LIMIT {
+        if x <= Node::LIMIT {
+            let t = std::num::truncating_f64_to_i64(x);
+            let back = t as f64;
+            if f64::to_bits(back) == f64::to_bits(x) {
+                return t % 4 == 0;
+            }
+        }
+    }
+    false
+}
+
+// The node of the orientation's own axiom, from which a walk down starts.
+pub fn axiom_node(orientation: u8) -> NodeAnswer
+    ensures { λ a. ⌜ saidNode a ≡ axiomNodeOf orientation ⌝ }
+{
+    if orientation > 5 {
+        return NodeAnswer::Refused(Refusal::Orientation);
+    }
+    let recipe = recipe_of(orientation);
+    NodeAnswer::Node(Node::new(recipe.state / 2, 0, 0, 0))
+}
+
+// A reversed curve reads every digit from the other end.
+fn digit_from(backward: bool, digit: u8) -> u64
+    requires { ⌜ digit ≤ 3 ⌝ }
+    ensures { λ d. ⌜ d ≡ cond backward (3 - digit) digit ⌝ }
+{
+    if backward {
+        return 3 - digit as u64;
+    }
+    digit as u64
+}
+
+// Three coordinates that may not fit an i32.
+struct Wide {
+    x: i64,
+    y: i64,
+    z: i64,
+}
+
+// 2^r, by which a shifted orientation moves its triples.
+fn side_of(resolution: u8) -> i64
+    requires { ⌜ resolution ≤ 30 ⌝ }
+    ensures { λ n. ⌜ n ≡ pos (2 ^ resolution) ⌝ }
+{
+    (1u64 << resolution) as i64
+}
+
+fn moved_wide(moves: bool, resolution: u8, t: Triple) -> Wide
+    requires { ⌜ resolution ≤ 30 ⌝ }
+    ensures { λ w. ⌜ record { x = w .x; y = w .y; z = w .z } ≡ movedBy moves resolution t ⌝ }
+{
+    let x = t.x as i64;
+    let y = t.y as i64;
+    let z = t.z as i64;
+    if moves {
+        let side = side_of(resolution);
+        return Wide {
+            x: x - side,
+            y: y + side,
+            z,
+        };
+    }
+    Wide { x, y, z }
+}
+
+enum Bounded {
+    In(Named),
+    Out,
+}
+
+// A drawn cell, if it is in bounds. Each whose corner sum has no triple is out of them.
+fn cell_within(moves: bool, resolution: u8, drawn: Drawn) -> Bounded
+    requires { ⌜ (0 < resolution) × (resolution ≤ 30) ⌝ }
+    ensures { λ c. ⌜ saidBounded c ≡ bounded resolution (namedBy moves resolution (drawn .sum) (drawn .flavor)) ⌝ }
+{
+    let sum = drawn.sum;
+    let found = sum.to_triple();
+    let TripleAnswer::At(t) = found else {
+        return Bounded::Out;
+    };
+    let w = moved_wide(moves, resolution, t);
+    let x = w.x;
+    let y = w.y;
+    let z = w.z;
+    if !in_bounds_wide(x, y, z, resolution) {
+        return Bounded::Out;
+    }
+    Bounded::In(Named {
+        triple: Triple::new(x as i32, y as i32, z as i32),
+        flavor: drawn.flavor,
+    })
+}
+
+// A cell's position and flavor, and the node below it: where a walk down to the cell by `child` would
+// arrive, in one descent.
+pub fn triple_to_curve_node(orientation: u8, resolution: u8, t: Triple) -> ReachedAnswer
+    ensures { λ a. ⌜ saidReached a ≡ nodeOf orientation resolution t ⌝ }
+{
+    let found = triple_to_s(orientation, resolution, t);
+    match found {
+        PositionAnswer::At(position) => {
+            let node = node_below(orientation, resolution, position.s);
+            ReachedAnswer::Reached(Reached { position, node })
+        }
+        PositionAnswer::Refused(e) => ReachedAnswer::Refused(e),
+    }
+}
+
+// s, or the place as far from the other end of 4^r.
+fn place_from(backward: bool, resolution: u8, s: u64) -> u64
+    requires { ⌜ (resolution ≤ 30) × (s < 4 ^ resolution) ⌝ }
+    ensures { λ p. ⌜ p ≡ cond backward (4 ^ resolution - 1 - s) s ⌝ }
+{
+    if backward {
+        return (1u64 << (2 * resolution)) - 1 - s;
+    }
+    s
+}
+
+// The node below the cell that s names. The descent reads the digits from the second on, so that
+// four times a place has all of the place's own.
+fn node_below(orientation: u8, resolution: u8, s: u64) -> Node
+    requires { ⌜ (orientation ≤ 5) × ((resolution ≤ 30) × (s < 4 ^ resolution)) ⌝ }
+    ensures { λ n. ⌜ n ≡ nodeAt orientation resolution s ⌝ }
+{
+    let recipe = recipe_of(orientation);
+    let place = place_from(recipe.backward, resolution, s);
+    let p = descend(recipe.state, resolution as u64, 4 * place);
+    Node::new(p.state / 2, (p.state % 2) as u8, p.a, p.b)
+}

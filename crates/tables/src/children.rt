@@ -1,0 +1,108 @@
+// A token's children, in the order of its rule.
+ghost use mathlib.Core.Path.{_≡_};
+ghost use mathlib.Core.List.{[], _∷_};
+ghost use Prim.Native.Nat.{_≤_, _<_, _+_, _%_};
+ghost use Rattle.turtle.specs.Walk.{letter};
+ghost use Rattle.grammar.specs.Curves.{letters};
+ghost use Rattle.grammar.specs.Texts.{linesOf};
+ghost use Rattle.tables.specs.Children.{met, children};
+ghost use Rattle.tables.specs.Meetings.{childBy, childrenBy, Open, Onward};
+ghost use Rattle.tables.specs.Sources.{Holds, Ready};
+use crate::Child;
+use crate::Source;
+use crate::tokens::rule_into;
+use crate::tokens::token_of;
+use grammar::lines::is_listed;
+
+// The first `count` children of a rule, and the heading behind them.
+struct Met {
+    children: [Child; 4],
+    count: usize,
+    heading: u8,
+}
+
+fn no_children() -> Met
+    ensures { λ m. ⌜ Open m × ((m .count ≡ 0) × (m .heading ≡ 0)) ⌝ }
+{
+    Met {
+        children: [Child {
+            token: 0,
+            flip: false,
+        }; 4],
+        count: 0,
+        heading: 0,
+    }
+}
+
+fn with_child(m: Met, token: usize) -> Met
+    requires { ⌜ Open m × (m .count < 4) ⌝ }
+    ensures { λ n. ⌜ Onward m (letter token ∷ []) n ⌝ }
+{
+    let at = m.count;
+    let heading = m.heading;
+    let mut children = m.children;
+    children[at] = Child {
+        token,
+        flip: heading == 3,
+    };
+    Met {
+        children,
+        count: at + 1,
+        heading,
+    }
+}
+
+fn with_turn(m: Met, turn: u8) -> Met
+    requires { ⌜ Open m × (turn ≤ 5) ⌝ }
+    ensures { λ n. ⌜ (n .children ≡ m .children) × ((n .count ≡ m .count) × (n .heading ≡ (m .heading + turn) % 6)) ⌝ }
+{
+    let children = m.children;
+    Met {
+        children,
+        count: m.count,
+        heading: (m.heading + turn) % 6,
+    }
+}
+
+// One byte more of a rule.
+fn met_byte(source: Source, m: Met, b: u8) -> Met
+    requires { ⌜ Holds 52 source × (Open m × (m .count + letters (childBy source b) ≤ 4)) ⌝ }
+    ensures { λ n. ⌜ Onward m (childBy source b) n ⌝ }
+{
+    if b == b'+' {
+        return with_turn(m, 1);
+    }
+    if b == b'-' {
+        return with_turn(m, 5);
+    }
+    let lines = source.lines;
+    if is_listed(lines, b) {
+        return with_child(m, token_of(source, b));
+    }
+    m
+}
+
+fn met_word(source: Source, w: &[u8]) -> Met
+    requires { ⌜ Holds 52 source × (letters (childrenBy source (now w)) ≡ 4) ⌝ }
+    ensures { λ m. ⌜ m .children ≡ met 0 (childrenBy source (now (w .entry))) ⌝ }
+{
+    let mut m = no_children();
+    let mut i = 0;
+    while i < w.len() {
+        m = met_byte(source, m, w[i]);
+        i += 1;
+    }
+    m
+}
+
+pub(crate) fn children_of(text: &[u8], source: Source, token: usize) -> [Child; 4]
+    requires { ⌜ Ready (now text) source × (token < source .count) ⌝ }
+    ensures { λ cs. ⌜ cs ≡ children (linesOf (now (text .entry))) token ⌝ }
+{
+    let bytes = source.bytes;
+    let lines = source.lines;
+    let mut rule = [0u8; 24];
+    let n = rule_into(text, lines, bytes[token], &mut rule);
+    let m = met_word(source, &rule[0..n]);
+    m.children
+}

@@ -1,0 +1,84 @@
+-- No more bytes are taken than there is room for.
+use mathlib.Core.Path.{sym}
+use native.Mathlib.Omega.{arith}
+use lib.Seq.{length-take-le}
+use borrow.Author.Needs.{needs}
+use Rattle.vectors.proofs.ask.reading.Statement.{statement}
+use Rattle.vectors.proofs.ask.reading.Tie as tie
+
+slice-aggregate-take-bytes : tie.Need-slice-aggregate-take-bytes
+slice-aggregate-take-bytes c = search needs
+
+take-bytes-requires : tie.Need-take-bytes-requires
+take-bytes-requires c κs = search needs
+
+array-share-prefix-bytes : tie.Need-array-share-prefix-bytes
+array-share-prefix-bytes c = search needs
+
+slice-aggregate-read : tie.Need-slice-aggregate-read
+slice-aggregate-read c = sym (length-take-le _ _ (omega arith))
+
+read-requires : tie.Need-read-requires
+read-requires c κs = search needs
+
+enum-known-answer : tie.Need-enum-known-answer
+enum-known-answer c = search needs
+
+cast-put-natural : tie.Need-cast-put-natural
+cast-put-natural c = search needs
+
+put-natural-requires : tie.Need-put-natural-requires
+put-natural-requires c κs = search needs
+
+cast-put-next-natural : tie.Need-cast-put-next-natural
+cast-put-next-natural c = search needs
+
+put-next-natural-requires : tie.Need-put-next-natural-requires
+put-next-natural-requires c κs = search needs
+
+put-next-natural-requires-2 : tie.Need-put-next-natural-requires-2
+put-next-natural-requires-2 c κs = search needs
+
+put-next-natural-requires-3 : tie.Need-put-next-natural-requires-3
+put-next-natural-requires-3 c κs = search needs
+
+enum-known-answer-2 : tie.Need-enum-known-answer-2
+enum-known-answer-2 c = search needs
+
+refused-requires : tie.Need-refused-requires
+refused-requires c κs = search needs
+
+same-length : tie.Need-same-length
+same-length c = search needs
+
+returns : tie.Need-returns
+returns c = search needs
+
+same-length-2 : tie.Need-same-length-2
+same-length-2 c = search needs
+
+returns-2 : tie.Need-returns-2
+returns-2 c = search needs
+
+pub reading-spec : {M : Type 1} → statement M
+reading-spec =
+    tie.close
+    (tie.spec
+    slice-aggregate-take-bytes
+    take-bytes-requires
+    array-share-prefix-bytes
+    slice-aggregate-read
+    read-requires
+    enum-known-answer
+    cast-put-natural
+    put-natural-requires
+    cast-put-next-natural
+    put-next-natural-requires
+    put-next-natural-requires-2
+    put-next-natural-requires-3
+    enum-known-answer-2
+    refused-requires
+    same-length
+    returns
+    same-length-2
+    returns-2)
