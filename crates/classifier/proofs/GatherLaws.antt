@@ -16,7 +16,7 @@ use borrow.Author.Tests.{lt-ltb, le-ltb}
 use Rattle.classifier.specs.declared.Classifier.{Classifier}
 use Rattle.classifier.specs.declared.Separator.{Separator}
 use Rattle.classifier.specs.declared.splits.Gathered.{Gathered}
-use Rattle.classifier.specs.declared.splits.Found.{Found}
+use Rattle.classifier.specs.declared.groups.Found.{Found}
 use Rattle.classifier.specs.Splits.{Polygon, split, stuck, allEdges, side, firstClean, treeOf, whole, same, index, added, collected, separators, choice}
 use Rattle.classifier.specs.Parts.{classifierOf}
 use Rattle.classifier.specs.Sets.{firstDigit, foundLine, threeOf, gatheredBy, linesOf, Kept, Through, Led}

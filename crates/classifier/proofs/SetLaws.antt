@@ -12,7 +12,7 @@ use mir.Val.{Fits}
 use borrow.Author.Tests.{not-true, not-false}
 use Rattle.classifier.specs.declared.Placed.{Placed}
 use Rattle.classifier.specs.declared.Separator.{Separator}
-use Rattle.classifier.specs.declared.splits.Group.{Group}
+use Rattle.classifier.specs.declared.groups.Group.{Group}
 use Rattle.classifier.specs.Splits.{Polygon, over, under, side, allUnder}
 use Rattle.classifier.specs.Parts.{cornersOf, noPlaced, polygonOf}
 use Rattle.classifier.specs.Sets.{kept, membersFrom, members, onSide, stays, firstDigit}

@@ -12,8 +12,8 @@ use Rattle.turtle.specs.Plane.{origin}
 use Rattle.turtle.specs.Sizes.{Within}
 use Rattle.classifier.specs.declared.Placed.{Placed}
 use Rattle.classifier.specs.declared.Separator.{Separator}
-use Rattle.classifier.specs.declared.splits.Group.{Group}
-use Rattle.classifier.specs.declared.splits.Found.{Found}
+use Rattle.classifier.specs.declared.groups.Group.{Group}
+use Rattle.classifier.specs.declared.groups.Found.{Found}
 use Rattle.classifier.specs.declared.splits.Gathered.{Gathered}
 use Rattle.classifier.specs.Splits.{Polygon, lineThrough, edges, over, treeOf, whole, collected, choice}
 use Rattle.classifier.specs.Parts.{cornersOf, noPlaced, polygonOf, noSeparator}

@@ -3,6 +3,8 @@
 // come to: three separators, and a child for each pattern of sides. Whose footprints they are is
 // `tables`'s.
 
+mod edges;
+mod groups;
 pub mod hulls;
 pub mod splits;
 

@@ -11,11 +11,11 @@ use Rattle.classifier.proofs.splits.choose.Reads as choose
 use Rattle.classifier.proofs.splits.choose.Kinds as choose-kinds
 use Rattle.classifier.proofs.splits.+choose.Lts-choose as choose-lts
 use Rattle.classifier.proofs.splits.bit.Reads as bit-reads
-use Rattle.classifier.proofs.splits.first_clean.Reads as first-clean-reads
-use Rattle.classifier.proofs.splits.first_digit.Reads as first-digit-reads
+use Rattle.classifier.proofs.groups.first_clean.Reads as first-clean-reads
+use Rattle.classifier.proofs.groups.first_digit.Reads as first-digit-reads
 use Rattle.classifier.proofs.splits.index_of.Reads as index-of-reads
-use Rattle.classifier.proofs.splits.side.Reads as side-reads
-use Rattle.classifier.proofs.splits.size.Reads as size-reads
+use Rattle.classifier.proofs.groups.side.Reads as side-reads
+use Rattle.classifier.proofs.groups.size.Reads as size-reads
 use Rattle.classifier.proofs.splits.+choose.{statement}
 use Rattle.classifier.proofs.splits.+choose.Tie.{close}
 

@@ -12,9 +12,9 @@ use Rattle.classifier.proofs.splits.gather.Kinds as gather-kinds
 use Rattle.classifier.proofs.splits.+gather.Lts-gather as gather-lts
 use Rattle.classifier.proofs.splits.added.Reads as added-reads
 use Rattle.classifier.proofs.splits.broken.Reads as broken-reads
-use Rattle.classifier.proofs.splits.first_clean.Reads as first-clean-reads
-use Rattle.classifier.proofs.splits.side.Reads as side-reads
-use Rattle.classifier.proofs.splits.size.Reads as size-reads
+use Rattle.classifier.proofs.groups.first_clean.Reads as first-clean-reads
+use Rattle.classifier.proofs.groups.side.Reads as side-reads
+use Rattle.classifier.proofs.groups.size.Reads as size-reads
 use Rattle.classifier.proofs.splits.+gather.{statement}
 use Rattle.classifier.proofs.splits.+gather.Tie.{close}
 
