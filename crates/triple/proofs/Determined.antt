@@ -33,7 +33,8 @@ refusalOf n = getD refusals (n - 1) Is.Resolution
     refusals : List Refusal
     refusals =
         Is.Resolution ∷ Is.Orientation ∷ Is.Position ∷ Is.Sum ∷ Is.Bounds ∷ Is.Pair ∷ Is.Node ∷ Is.Digit ∷ Is.Point ∷ Is.Room ∷ Is.Code
-        ∷ Is.Shape ∷ Is.Motif ∷ Is.Rule ∷ Is.Children ∷ Is.Heading ∷ Is.Draw ∷ Is.Turns ∷ Is.Net ∷ Is.Split ∷ Is.Line ∷ Is.Table ∷ []
+        ∷ Is.Shape ∷ Is.Motif ∷ Is.Rule ∷ Is.Children ∷ Is.Heading ∷ Is.Draw ∷ Is.Turns ∷ Is.Net ∷ Is.Split ∷ Is.Line ∷ Is.Table
+        ∷ Is.Passes ∷ Is.Spare ∷ Is.Order ∷ Is.Part ∷ Is.Polygon ∷ Is.Retired ∷ Is.Long ∷ []
 
 pub numbered : (e : Refusal) → refusalOf (numberOf e) ≡ e
 unfolding numberOf
@@ -59,6 +60,13 @@ numbered Is.Net = refl
 numbered Is.Split = refl
 numbered Is.Line = refl
 numbered Is.Table = refl
+numbered Is.Passes = refl
+numbered Is.Spare = refl
+numbered Is.Order = refl
+numbered Is.Part = refl
+numbered Is.Polygon = refl
+numbered Is.Retired = refl
+numbered Is.Long = refl
 
 pub number-one-to-one : (e f : Refusal) → numberOf e ≡ numberOf f → e ≡ f
 number-one-to-one = one-to-one numberOf refusalOf numbered

@@ -31,6 +31,13 @@ numberOf Is.Net = 19
 numberOf Is.Split = 20
 numberOf Is.Line = 21
 numberOf Is.Table = 22
+numberOf Is.Passes = 23
+numberOf Is.Spare = 24
+numberOf Is.Order = 25
+numberOf Is.Part = 26
+numberOf Is.Polygon = 27
+numberOf Is.Retired = 28
+numberOf Is.Long = 29
 
 -- refused by e where the test holds; else what comes after it
 abbrev pub refuse : {A : Type 0} → Bool → Refusal → Told A → Told A

@@ -25,6 +25,13 @@ pub enum Refusal {
     Split,
     Line,
     Table,
+    Passes,
+    Spare,
+    Order,
+    Part,
+    Polygon,
+    Retired,
+    Long,
 }
 
 impl Refusal {
@@ -54,6 +61,13 @@ impl Refusal {
             Refusal::Split => 20,
             Refusal::Line => 21,
             Refusal::Table => 22,
+            Refusal::Passes => 23,
+            Refusal::Spare => 24,
+            Refusal::Order => 25,
+            Refusal::Part => 26,
+            Refusal::Polygon => 27,
+            Refusal::Retired => 28,
+            Refusal::Long => 29,
         }
     }
 }
