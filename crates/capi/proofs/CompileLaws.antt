@@ -23,14 +23,9 @@ use Rattle.tables.specs.Compiler as Compiler
 use Rattle.tables.specs.Verdicts.{verdict}
 use Rattle.tables.proofs.Entries.{length-table}
 use Rattle.tables.proofs.CompileLaws.{when-states, when-refused, when-faulty, some-tokens}
-use Rattle.capi.specs.Lent.{statusOf, afterCall, firstOf, secondOf}
-use Rattle.capi.specs.Calls.{countValues, compileCall, lineOr}
-use Rattle.capi.proofs.LentLaws.{Called, CalledBoth, put-known, none-written, both-whole, first-short, second-short}
-
--- what the status, the table and the other slice have to be
-abbrev pub CompileCalled : List ℕ → List ℤ → List ℕ → ℕ → List ℤ → List ℕ → Type 0
-CompileCalled text table out n x y =
-    (n ≡ statusOf (firstOf (compileCall text) out) table) × (x ≡ afterCall (firstOf (compileCall text) out) table) × (y ≡ afterCall (lineOr (verdict text) (secondOf (compileCall text) table)) out)
+use Rattle.capi.specs.Lent.{Called, CalledBoth}
+use Rattle.capi.specs.Calls.{countValues, compileCall, CompileCalled}
+use Rattle.capi.proofs.LentLaws.{put-known, none-written, both-whole, first-short, second-short}
 
 module _ (text : List ℕ) (table : List ℤ) (out : List ℕ) {n : ℕ} (within : n ≤ length table) (lent : n ≡ cond (ltb (length out) 1) 0 (length table)) where
   lent-none : length out ≡ 0 → n ≡ 0

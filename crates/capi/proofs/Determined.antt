@@ -6,9 +6,8 @@ use Prim.Native.Nat.{ℕ}
 use lib.IntN.{ℤ}
 use lib.Ieee.{Float}
 use Rattle.triple.specs.Refusals.{Told}
-use Rattle.capi.specs.Calls.{cellCall, positionCall, nodeCall, stepCall, pointCall, cornerCall, tripleCall, writeCall, readCall, lineCall, descendCall}
-use Rattle.capi.proofs.LentLaws.{Called, CalledBoth}
-use Rattle.capi.proofs.CompileLaws.{CompileCalled}
+use Rattle.capi.specs.Lent.{Called, CalledBoth}
+use Rattle.capi.specs.Calls.{cellCall, positionCall, nodeCall, stepCall, pointCall, cornerCall, tripleCall, writeCall, readCall, lineCall, descendCall, CompileCalled}
 
 -- ---- whatever the call gives
 module _ {A : Type 0} (call : Told (List A)) (slice : List A) where

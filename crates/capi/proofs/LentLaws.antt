@@ -11,13 +11,9 @@ use lib.Seq.{sets, sets-eq}
 use borrow.Author.Tests.{lt-ltb, le-ltb}
 use Rattle.triple.specs.declared.refusal.Refusal.the-variants.{Room}
 use Rattle.triple.specs.Refusals.{Told, told, refused, numberOf, refuse}
-use Rattle.capi.specs.Lent.{valued, statusOf, afterCall, firstOf, secondOf}
+use Rattle.capi.specs.Lent.{valued, statusOf, afterCall, Called, firstOf, secondOf, CalledBoth}
 
 -- ---- one slice
--- what a call's status and its slice afterwards have to be
-abbrev pub Called : {A : Type 0} → Told (List A) → List A → ℕ → List A → Type 0
-Called call slice n after = (n ≡ statusOf call slice) × (after ≡ afterCall call slice)
-
 module _ {A : Type 0} (values slice : List A) where
   pub put-short : length slice < length values → {n : ℕ} → n ≡ numberOf Room → Called (told values) slice n slice
   unfolding statusOf afterCall
@@ -45,10 +41,6 @@ module _ {A B : Type 0} (values : A → List B) (slice : List B) {given t : Told
   call-refused f p = rw (sym answers, f) (p, refl)
 
 -- ---- two slices
-abbrev pub CalledBoth : {A B : Type 0} → Told (List A × List B) → List A → List B → ℕ → List A → List B → Type 0
-CalledBoth call first second n x y =
-    (n ≡ statusOf (firstOf call second) first) × (x ≡ afterCall (firstOf call second) first) × (y ≡ afterCall (secondOf call first) second)
-
 -- the slice is too short, whether the other is or not
 either-short : {A : Type 0} (b : Bool) (values slice : List A) → length slice < length values → {n : ℕ} → n ≡ numberOf Room → Called (refuse b Room (told values)) slice n slice
 unfolding statusOf afterCall

@@ -16,7 +16,8 @@ use Rattle.query.specs.declared.Found.{Found}
 use Rattle.query.specs.Lines.{wordsOf, spaced, answerLine}
 use Rattle.query.specs.Prints.{printOf, printed, afterPrint}
 use Rattle.capi.specs.Calls.{countValues}
-use Rattle.capi.proofs.LentLaws.{Called, CalledBoth, put-known, both-whole, first-short, second-short}
+use Rattle.capi.specs.Lent.{Called, CalledBoth}
+use Rattle.capi.proofs.LentLaws.{put-known, both-whole, first-short, second-short}
 use Rattle.capi.proofs.WriteLaws.{room-told, room-refused, lent-none, lent-all}
 
 -- ---- no answer is empty: each has two words at least

@@ -12,7 +12,8 @@ use mir.ValLaws.{toZ-ofZ}
 use Rattle.triple.specs.declared.Triple.{Triple}
 use Rattle.triple.specs.Refusals.{told}
 use Rattle.turtle.specs.declared.AB.{AB}
-use Rattle.capi.proofs.LentLaws.{Called, CalledBoth, sets-front, put-whole, both-whole}
+use Rattle.capi.specs.Lent.{Called, CalledBoth}
+use Rattle.capi.proofs.LentLaws.{sets-front, put-whole, both-whole}
 
 abbrev pub readBack : Width → List ℤ → List ℤ
 readBack w [] = []

@@ -16,7 +16,8 @@ use Rattle.triple.specs.Refusals.{Told, told, refused, numberOf, refuse}
 use Rattle.code.specs.Codes.{codeLength, codeBytes, written, writeOf, afterWrite}
 use Rattle.code.proofs.CodeLaws.{length-code}
 use Rattle.capi.specs.Calls.{countValues, writeCall}
-use Rattle.capi.proofs.LentLaws.{Called, CalledBoth, put-known, none-written, both-whole, first-short, second-short}
+use Rattle.capi.specs.Lent.{Called, CalledBoth}
+use Rattle.capi.proofs.LentLaws.{put-known, none-written, both-whole, first-short, second-short}
 
 -- ---- the tests that come before the one of room: a code passes them, whatever is to come of it, or is refused
 abbrev tests : {A : Type 0} → Bool → Bool → Bool → Told A → Told A

@@ -1,4 +1,5 @@
 -- Each call's values, in the order in which it writes them.
+use mathlib.Core.Path.{_≡_}
 use mathlib.Core.List.{List, [], _∷_}
 use Prim.Native.Nat.{ℕ, _*_, _^_}
 use lib.Dec.{leb, ltb}
@@ -27,7 +28,7 @@ use Rattle.grammar.specs.Curves.{tokenBytes}
 use Rattle.grammar.specs.Tests.{Verdict, fine, fault}
 use Rattle.tables.specs.Compiler.{tableFor}
 use Rattle.tables.specs.Verdicts.{verdict}
-use Rattle.capi.specs.Lent.{valued}
+use Rattle.capi.specs.Lent.{valued, statusOf, afterCall, firstOf, secondOf}
 
 -- x y z
 abbrev pub tripleValues : Triple → List ℤ
@@ -116,3 +117,8 @@ compileCall text = compileBy (verdict text) (tableFor text, countValues (2 * len
 abbrev pub lineOr : Verdict → Told (List ℕ) → Told (List ℕ)
 lineOr fine call = call
 lineOr (fault n line) call = told (countValues line)
+
+-- the status, the table and the other slice afterwards are the compiler's
+abbrev pub CompileCalled : List ℕ → List ℤ → List ℕ → ℕ → List ℤ → List ℕ → Type 0
+CompileCalled text table out n x y =
+    (n ≡ statusOf (firstOf (compileCall text) out) table) × (x ≡ afterCall (firstOf (compileCall text) out) table) × (y ≡ afterCall (lineOr (verdict text) (secondOf (compileCall text) table)) out)

@@ -1,4 +1,5 @@
 -- What a call answers that writes its values to a lent slice: its status, and what the slice holds afterwards.
+use mathlib.Core.Path.{_≡_}
 use mathlib.Core.Bool.{cond}
 use mathlib.Core.List.{List, _++_}
 use Prim.Native.Nat.{ℕ}
@@ -22,6 +23,10 @@ unfoldable pub afterCall : {A : Type 0} → Told (List A) → List A → List A
 afterCall (told values) slice = cond (ltb (length slice) (length values)) slice (values ++ drop (length values) slice)
 afterCall (refused n) slice = slice
 
+-- the status and the slice afterwards are the call's
+abbrev pub Called : {A : Type 0} → Told (List A) → List A → ℕ → List A → Type 0
+Called call slice n after = (n ≡ statusOf call slice) × (after ≡ afterCall call slice)
+
 -- ---- values for two slices: both are written, or none
 -- those for the first, where the second has room
 unfoldable pub firstOf : {A B : Type 0} → Told (List A × List B) → List B → Told (List A)
@@ -32,3 +37,7 @@ firstOf (refused n) second = refused n
 unfoldable pub secondOf : {A B : Type 0} → Told (List A × List B) → List A → Told (List B)
 secondOf (told (values, others)) first = refuse (ltb (length first) (length values)) Room (told others)
 secondOf (refused n) first = refused n
+
+abbrev pub CalledBoth : {A B : Type 0} → Told (List A × List B) → List A → List B → ℕ → List A → List B → Type 0
+CalledBoth call first second n x y =
+    (n ≡ statusOf (firstOf call second) first) × (x ≡ afterCall (firstOf call second) first) × (y ≡ afterCall (secondOf call first) second)

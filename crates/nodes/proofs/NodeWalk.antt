@@ -30,6 +30,7 @@ use Rattle.nodes.specs.Descents.{down, descended, atOrigin}
 use Rattle.lsystem.specs.Walks.{axiomState}
 use Rattle.nodes.specs.Nodes.{goodNode, isFlipped, spot, node, axiomNode, digitOf, childCell, below, bounded, childOf, nodeAt}
 use Rattle.nodes.specs.NodeAnswers.{axiomNodeOf}
+use Rattle.nodes.specs.NodeWalks.{walkedNode, lastStep}
 use Rattle.nodes.specs.Reach.{Near}
 use Rattle.a5.proofs.A5Entries.{child-state, leaf-sum, leaf-flavor}
 use Rattle.lsystem.proofs.CellCode.{axiom-state, axiom-state-small}
@@ -265,23 +266,18 @@ module _ (o : ℕ) (h : o ≤ 5) where
       let e : 4 * placeOf o r s / 4 ≡ placeOf o r s = omega arith in
       rw (node-is r s (4 * placeOf o r s) k l e) (reached-good r (4 * placeOf o r s) k)
 
--- ---- the node that r steps answer, from the axiom's down, at resolutions 1 to r and by the digits of s, highest first
-unfoldable pub walked : ℕ → ℕ → ℕ → Told Node
-walked o zero s = axiomNodeOf o
-walked o (suc r) s = do
-  n ← walked o r (s / 4)
-  c ← childOf o (suc r) n (s % 4)
-  told (c .node)
-
+-- ---- the walk
 module _ (o : ℕ) (h : o ≤ 5) where
-  pub walk-nodes : (r s : ℕ) → r ≤ 30 → s < 4 ^ r → walked o r s ≡ told (nodeAt o r s)
-  unfolding walked axiomNodeOf nodeAt
+  pub walk-nodes : (r s : ℕ) → r ≤ 30 → s < 4 ^ r → walkedNode o r s ≡ told (nodeAt o r s)
+  unfolding walkedNode axiomNodeOf nodeAt
   walk-nodes zero s k l = rw (le-ltb 5 o h)
   walk-nodes (suc r) s k l =
       let i : r ≤ 29 = omega arith in
       rw (walk-nodes r (s / 4) (omega arith) (omega arith), stepped o h r s i l _ (cell-at o r s h i l))
 
   -- THE WALK: the last of suc n steps answers the cell that s names, and the node below it
-  pub walk-cell : (n s : ℕ) → n ≤ 29 → s < 4 ^ suc n
-      → (walked o n (s / 4) >>= λ m. childOf o (suc n) m (s % 4)) ≡ (cellOf o (suc n) s >>= λ c. told (record { cell = c; node = nodeAt o (suc n) s }))
-  walk-cell n s k l = rw (walk-nodes n (s / 4) (omega arith) (omega arith), named-at o h n s k l) (step-is o h n s k l)
+  pub walk-cell : (n s : ℕ) → n ≤ 29 → s < 4 ^ suc n → lastStep o (suc n) s ≡ (cellOf o (suc n) s >>= λ c. told (record { cell = c; node = nodeAt o (suc n) s }))
+  unfolding lastStep
+  walk-cell n s k l =
+      let e : suc n - 1 ≡ n = omega arith in
+      rw (e, walk-nodes n (s / 4) (omega arith) (omega arith), named-at o h n s k l) (step-is o h n s k l)

@@ -3,3 +3,4 @@ pub mod Descents
 pub mod Reach
 pub mod Nodes
 pub mod NodeAnswers
+pub mod NodeWalks

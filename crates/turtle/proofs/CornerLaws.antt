@@ -23,7 +23,7 @@ use Rattle.triple.specs.Triples.{sumOf, goodSum}
 use Rattle.turtle.specs.declared.AB.{AB}
 use Rattle.turtle.specs.declared.corner.Wide.{Wide}
 use Rattle.turtle.specs.Plane.{far}
-use Rattle.turtle.specs.Corners.{cornerSum, cornerSumOf, candidate, has, fits32, same, tripleOf}
+use Rattle.turtle.specs.Corners.{cornerSum, cornerSumOf, candidate, has, fits32, same, tripleOf, FitsI32, ThreeI32, HasTriple}
 
 -- ---- the flag that a comparison gives is the one to return
 pub flag-is : (f g : Bool) → (f ≡ true → true ≡ g) → (f ≡ false → false ≡ g) → f ≡ g
@@ -76,35 +76,26 @@ abbrev pub v-near-b : {p : AB} → Near p → View (p .b)
 v-near-b n = v-within 17179869184 17179869184 (n .b-low) (n .b-high)
 
 -- ---- coordinates that are i32
-pub record Fits (v : ℤ) : Type 0 where
-  pub low : negsuc 2147483647 ≤ℤ v
-  pub high : v ≤ℤ pos 2147483647
-
-pub record Narrow (t : Triple) : Type 0 where
-  pub x : Fits (t .x)
-  pub y : Fits (t .y)
-  pub z : Fits (t .z)
-
-abbrev pub v-fits : {v : ℤ} → Fits v → View v
+abbrev pub v-fits : {v : ℤ} → FitsI32 v → View v
 v-fits f = v-within 2147483648 2147483647 (f .low) (f .high)
 
 abbrev narrow : Triple → List Test
 narrow t = fits32 (t .x) (fits32 (t .y) (fits32 (t .z) []))
 
-narrow-hold : (t : Triple) → Hold (narrow t) → Narrow t
+narrow-hold : (t : Triple) → Hold (narrow t) → ThreeI32 t
 narrow-hold t h = record {
   x = record { low = h .0; high = h .1 .0 };
   y = record { low = h .1 .1 .0; high = h .1 .1 .1 .0 };
   z = record { low = h .1 .1 .1 .1 .0; high = h .1 .1 .1 .1 .1 .0 };
 }
 
-hold-narrow : (t : Triple) → Narrow t → Hold (narrow t)
+hold-narrow : (t : Triple) → ThreeI32 t → Hold (narrow t)
 hold-narrow t n = (n .x .low, (n .x .high, (n .y .low, (n .y .high, (n .z .low, (n .z .high, tt))))))
 
-pub narrow-of : (t : Triple) → pass (narrow t) ≡ true → Narrow t
+pub narrow-of : (t : Triple) → pass (narrow t) ≡ true → ThreeI32 t
 narrow-of t e = narrow-hold t (pass-true (narrow t) e)
 
-pub narrow-true : (t : Triple) → Narrow t → pass (narrow t) ≡ true
+pub narrow-true : (t : Triple) → ThreeI32 t → pass (narrow t) ≡ true
 narrow-true t n = sym (true-pass (narrow t) (hold-narrow t n))
 
 -- the flags of the three, each read back from its bits, make up the flag of all
@@ -229,7 +220,7 @@ candidate-of s t e =
 -- ---- what the test of a candidate says
 pub record Has (p : AB) (t : Triple) : Type 0 where
   pub sum : cornerSum t ≡ p
-  pub narrow : Narrow t
+  pub narrow : ThreeI32 t
 
 abbrev tests : AB → Triple → List Test
 tests p t = same (cornerSum t) p (narrow t)
@@ -259,7 +250,7 @@ le-refl a =
     let x = v-var a in
     le-by x x tt (omega arith)
 
-holds : (t : Triple) → Narrow t → Hold (tests (cornerSum t) t)
+holds : (t : Triple) → ThreeI32 t → Hold (tests (cornerSum t) t)
 holds t n =
     let a = le-refl (cornerSum t .a) in
     let b = le-refl (cornerSum t .b) in
@@ -301,20 +292,14 @@ module _ (p : AB) (f : Bool) (ef : f ≡ far p) where
       unfolding tripleOf
       triple-none e = rw (← ef, near, et, ← eh, no, eu, ← ek, e)
 
--- ---- the inverse, exactly: t is three i32, of sum 0 or 1, with the corner sum p, which is not far
-pub record Names (p : AB) (t : Triple) : Type 0 where
-  pub narrow : Narrow t
-  pub good : goodSum t ≡ true
-  pub sum : cornerSum t ≡ p
-  pub near : far p ≡ false
-
-names-candidate : (s : ℕ) → s ≤ 1 → (p : AB) → far p ≡ false → has p (candidate s p) ≡ true → Names p (candidate s p)
+-- ---- the inverse, exactly
+names-candidate : (s : ℕ) → s ≤ 1 → (p : AB) → far p ≡ false → has p (candidate s p) ≡ true → HasTriple p (candidate s p)
 names-candidate s l p f h =
     let k = has-of p (candidate s p) h in
     record { narrow = k .narrow; good = sum-good (candidate s p) s l (candidate-sum s p); sum = k .sum; near = f }
 
 abbrev Answered : AB → Type 0
-Answered p = ((t : Triple) × Names p t × (tripleOf p ≡ told t)) ⊎ (tripleOf p ≡ refused 6)
+Answered p = ((t : Triple) × HasTriple p t × (tripleOf p ≡ told t)) ⊎ (tripleOf p ≡ refused 6)
 
 pub inverse-refused : (p : AB) → Answered p
 unfolding numberOf
@@ -326,22 +311,22 @@ inverse-refused p = go (far p) (has p (candidate 0 p)) (has p (candidate 1 p)) r
     go false false true ef eh ek = inl (candidate 1 p, names-candidate 1 (omega arith) p ef ek, sym (triple-odd p _ refl ef _ refl _ refl eh _ refl _ refl _ refl ek))
     go false false false ef eh ek = inr (sym (triple-none p _ refl ef _ refl _ refl eh _ refl _ refl ek))
 
-pub inverse-sound : (p : AB) (t : Triple) → tripleOf p ≡ told t → Names p t
+pub inverse-sound : (p : AB) (t : Triple) → tripleOf p ≡ told t → HasTriple p t
 inverse-sound p t e = ⊎-elim answered never (inverse-refused p)
   where
-    answered : ((u : Triple) × Names p u × (tripleOf p ≡ told u)) → Names p t
+    answered : ((u : Triple) × HasTriple p u × (tripleOf p ≡ told u)) → HasTriple p t
     answered h =
         let u = h .0 in
         let g : tripleOf p ≡ told u = h .2 in
         let same : u ≡ t = cc in
-        subst (Names p) same (h .1)
+        subst (HasTriple p) same (h .1)
 
-    never : tripleOf p ≡ refused 6 → Names p t
+    never : tripleOf p ≡ refused 6 → HasTriple p t
     never g =
         let z : _≡_ {A = ℕ} 0 1 = cc in
         absurd (omega arith)
 
-pub inverse-complete : (p : AB) (t : Triple) → Names p t → tripleOf p ≡ told t
+pub inverse-complete : (p : AB) (t : Triple) → HasTriple p t → tripleOf p ≡ told t
 inverse-complete p t n = ⊎-elim even odd (zero-or-one (sumOf t) (good-of t (n .good) .0) (good-of t (n .good) .1))
   where
     candidate-is : (s : ℕ) → sumOf t ≡ pos s → candidate s p ≡ t
@@ -363,5 +348,5 @@ inverse-complete p t n = ⊎-elim even odd (zero-or-one (sumOf t) (good-of t (n 
         go false eh = sym (triple-odd p _ refl (n .near) _ refl _ refl eh t (candidate-is 1 e) true found t refl refl)
 
 -- there and back, where the pair is not far
-pub triple-of-corner-sum : (t : Triple) → Narrow t → goodSum t ≡ true → far (cornerSum t) ≡ false → tripleOf (cornerSum t) ≡ told t
+pub triple-of-corner-sum : (t : Triple) → ThreeI32 t → goodSum t ≡ true → far (cornerSum t) ≡ false → tripleOf (cornerSum t) ≡ told t
 triple-of-corner-sum t n g f = inverse-complete (cornerSum t) t (record { narrow = n; good = g; sum = refl; near = f })

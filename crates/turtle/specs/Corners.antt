@@ -1,9 +1,10 @@
 -- The corner sum of a triple's cell, and the triple that has a corner sum.
-use mathlib.Core.Bool.{Bool, not, _&&_, cond}
+use mathlib.Core.Path.{_≡_}
+use mathlib.Core.Bool.{Bool, true, false, not, _&&_, cond}
 use mathlib.Core.List.{List, [], _∷_}
 use Prim.Native.Nat.{ℕ, _*_}
 use lib.IntN.{ℤ, pos, negsuc, _+ℤ_, _-ℤ_, _*ℤ_}
-use lib.Signed.{quotZ}
+use lib.Signed.{_≤ℤ_, quotZ}
 use Rattle.whole.specs.Tests.{Test, _≤?_, pass}
 use Rattle.triple.specs.declared.Triple.{Triple}
 use Rattle.triple.specs.declared.refusal.Refusal.the-variants.{Sum, Pair}
@@ -44,3 +45,21 @@ tripleOf p =
     refuse (far p) Pair
     (cond (has p (candidate 0 p)) (told (candidate 0 p))
     (cond (has p (candidate 1 p)) (told (candidate 1 p)) (refused (numberOf Pair))))
+
+-- ---- the inverse, exactly
+-- a coordinate is an i32
+pub record FitsI32 (v : ℤ) : Type 0 where
+  pub low : negsuc 2147483647 ≤ℤ v
+  pub high : v ≤ℤ pos 2147483647
+
+pub record ThreeI32 (t : Triple) : Type 0 where
+  pub x : FitsI32 (t .x)
+  pub y : FitsI32 (t .y)
+  pub z : FitsI32 (t .z)
+
+-- the pair p has the triple t: of sum 0 or 1, with that corner sum, three i32; and the pair is not beyond 2 ^ 34
+pub record HasTriple (p : AB) (t : Triple) : Type 0 where
+  pub good : goodSum t ≡ true
+  pub sum : cornerSum t ≡ p
+  pub narrow : ThreeI32 t
+  pub near : far p ≡ false

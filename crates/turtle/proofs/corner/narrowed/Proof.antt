@@ -3,11 +3,12 @@ use native.Mathlib.Omega.{arith}
 use borrow.Author.Needs.{needs}
 use mathlib.Core.Path.{_∙_}
 use Rattle.whole.proofs.View.{view, fits, eq-by}
-use Rattle.turtle.proofs.CornerLaws.{triple-is, wide, Narrow, narrow-of, v-fits}
+use Rattle.turtle.specs.Corners.{ThreeI32}
+use Rattle.turtle.proofs.CornerLaws.{triple-is, wide, narrow-of, v-fits}
 use Rattle.turtle.proofs.corner.narrowed.Statement.{statement}
 use Rattle.turtle.proofs.corner.narrowed.Tie as tie
 
-narrow : (c : tie.After-struct-told3) → Narrow (wide (c .before .before .before .args .w))
+narrow : (c : tie.After-struct-told3) → ThreeI32 (wide (c .before .before .before .args .w))
 narrow c = narrow-of (wide (c .before .before .before .args .w)) (c .before .before .before .pre)
 
 cast-new : tie.Need-cast-new
