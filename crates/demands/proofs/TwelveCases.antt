@@ -1,15 +1,15 @@
 -- THE DOZEN. All but case 6 by computation; case 6 by the law that a position's cell is its digits' walk through the footprints (`cell-at`), which
 -- computes in thirty steps where the drawing has 4 ^ 30 cells.
--- Assumes nothing.
 use mathlib.Core.Path.{_≡_, refl}
-use Prim.Native.Nat.{ℕ, _-_, _^_, _<_}
+use Prim.Native.Nat.{_-_, _^_, _<_}
 use native.Mathlib.Omega.{arith}
-use lib.IntN.{ℤ, pos, negsuc}
+use lib.IntN.{pos, negsuc}
 use Rattle.triple.specs.Refusals.{refused, numberOf}
 use Rattle.triple.specs.Triples.{colorOf, closedFlavor}
 use Rattle.lsystem.specs.Cells.{placeOf, isBackward, cellAt, cellOf}
 use Rattle.lsystem.proofs.Examples.{cell-examples, corner-examples}
 use Rattle.tables.proofs.Examples.{no-split}
+use Rattle.tables.specs.Compiler.{compiledTo}
 use Rattle.tables.specs.Descent.{entry}
 use Rattle.a5.specs.A5Table.{a5Table}
 use Rattle.a5.proofs.Footprints.{before-x, before-y, before-g, begins, at-x, at-y, at-g, leaf-x, leaf-y, leaf-g}
@@ -19,7 +19,7 @@ use Rattle.a5.proofs.Once.{cellTriple}
 use Rattle.lsystem.proofs.CellLaws.{axiomIn, cell-at}
 use Rattle.curve.proofs.Examples.{point-examples}
 use Rattle.code.proofs.Examples.{code-examples}
-use Rattle.dozen.specs.Dozen.{Dozen, cell}
+use Rattle.demands.specs.Dozen.{Dozen, cell}
 
 last : 4 ^ 30 - 1 < 4 ^ 30
 last = omega arith
@@ -52,5 +52,5 @@ dozen =
       case-9 = point-examples .0;
       case-10 = point-examples .1;
       case-11 = (code-examples .0, code-examples .1);
-      case-12 = no-split;
+      case-12 = λ table. unfold compiledTo in rw no-split;
     }

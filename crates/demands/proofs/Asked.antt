@@ -1,0 +1,26 @@
+-- ALL THAT WAS ASKED holds.
+use Rattle.a5.proofs.A5Compiled.{a5-states}
+use Rattle.demands.specs.Demands.{Demands}
+use Rattle.demands.proofs.Refused.{refusals}
+use Rattle.demands.proofs.Kept.{lent-buffers}
+use Rattle.demands.proofs.Inverse.{corner-sums}
+use Rattle.demands.proofs.ExactlyOnce.{numbering}
+use Rattle.demands.proofs.Steps.{child-steps}
+use Rattle.demands.proofs.Rounded.{points}
+use Rattle.demands.proofs.Drawn.{grammar}
+use Rattle.demands.proofs.ReadBack.{code}
+use Rattle.demands.proofs.TwelveCases.{dozen}
+
+pub demands : Demands
+demands = record {
+  refusals = refusals;
+  lent-buffers = lent-buffers;
+  corner-sums = corner-sums;
+  numbering = numbering;
+  child-steps = child-steps;
+  points = points;
+  grammars = grammar;
+  a5 = a5-states;
+  codes = code;
+  dozen = dozen;
+}

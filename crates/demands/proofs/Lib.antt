@@ -1,0 +1,29 @@
+-- Why what was asked holds: a theorem for each record of specs/, from the laws of the crates below.
+
+-- ---- calls
+-- what is told and what is refused
+pub mod ToldLaws
+-- every call is answered, or refused by one of its own numbers
+pub mod Refused
+-- a refused call changes no lent buffer
+pub mod Kept
+-- ---- the lattice and the curve
+-- the inverse of corner sums, exactly
+pub mod Inverse
+-- every in-bounds triple is named exactly once, over triples alone
+pub mod ExactlyOnce
+-- the walk by child steps reaches the cell that s names
+pub mod Steps
+-- the triple of a point is in bounds
+pub mod Rounded
+-- ---- any grammar
+-- what the compiler leaves in a table, descended, is the drawing
+pub mod Drawn
+-- ---- codes
+-- a code that was written reads back
+pub mod ReadBack
+-- ---- the dozen, and the whole
+-- the twelve worked examples
+pub mod TwelveCases
+-- all that was asked, as one theorem
+pub mod Asked

@@ -1,0 +1,243 @@
+-- EVERY CALL is answered or refused by one of its own numbers: those of its tests, as the definition has them; and what is behind the tests is
+-- answered. Of cells and positions that is the numbering, of the inverse its law.
+use mathlib.Core.Path.{refl}
+use mathlib.Core.Logic.{⊎-elim}
+use mathlib.Core.Bool.{Bool, true, false, not, cond, _||_, _&&_}
+use mathlib.Core.List.{List, [], _∷_}
+use Prim.Native.Nat.{ℕ, zero, suc, _-_, _*_, _^_, _≤_}
+use native.Mathlib.Omega.{arith}
+use lib.Dec.{T, leb, ltb, eqb}
+use lib.IntN.{ℤ, pos, negℤ}
+use lib.Ieee.{Float}
+use lib.ListN.{length, getD, take, drop}
+use borrow.Author.Tests.{ltb-false, leb-false, not-false}
+use Rattle.triple.specs.declared.Triple.{Triple}
+use Rattle.triple.specs.declared.refusal.Refusal.the-variants as Is
+use Rattle.triple.specs.Refusals.{Told, told, refused, numberOf, refuse, _>>=_}
+use Rattle.triple.specs.Triples.{goodSum, inBounds, parityOf, flavorOf}
+use Rattle.triple.specs.Orientations.{orientationOf}
+use Rattle.turtle.specs.declared.AB.{AB}
+use Rattle.turtle.specs.Corners.{cornerSumOf, tripleOf}
+use Rattle.turtle.proofs.CornerLaws.{inverse-refused}
+use Rattle.grammar.specs.Texts.{Row, linesOf, rowsOf, fieldsOf}
+use Rattle.grammar.specs.Curves.{tokenBytes}
+use Rattle.grammar.specs.Tests.{Verdict, fine, fault, faultAt, first, badShape, badMotif, badRule, badCount, badHeading, badDraw, badTurns, badNet, someRows, lineTests, textTests}
+use Rattle.grammar.specs.WordAnswers.{writtenTo}
+use Rattle.tables.specs.Compiler.{unless, states, compiledTo, tableFor}
+use Rattle.tables.specs.Compiler as Compiler
+use Rattle.tables.specs.Descent.{goodTable, descentOf}
+use Rattle.tables.specs.Verdicts.{badSplit, splitTests, verdict}
+use Rattle.lsystem.specs.declared.Named.{Named}
+use Rattle.lsystem.specs.Cells.{named, cellOf, positionOf}
+use Rattle.lsystem.proofs.Numbering.{numbers as numbers-of}
+use Rattle.nodes.specs.declared.Node.{Node}
+use Rattle.nodes.specs.Nodes.{goodNode, digitOf, childCell, bounded, childOf, nodeOf}
+use Rattle.nodes.specs.NodeAnswers.{axiomNodeOf}
+use Rattle.curve.specs.Points.{near, pointOf}
+use Rattle.code.specs.Codes.{allBits, valueOf, codeLength, writeOf, readOf}
+use Rattle.query.specs.declared.Query.{Query}
+use Rattle.query.specs.Numbers.{allDigits, valueAfter, isDecimal, upTo, i32, f64}
+use Rattle.query.specs.Queries.{answerOf}
+use Rattle.query.specs.Prints.{printOf}
+use Rattle.query.specs.Lines.{starts, positionQuery, cellQuery, pointQuery, queryOf}
+use Rattle.demands.specs.Demands.{isAmong, AnsweredOr, answer, refusal, CompiledOr, Refusals}
+use Rattle.demands.proofs.ToldLaws.{by-test, by-choice, by-step, by-answer}
+
+-- ---- triples
+orientation : (o : ℕ) → AnsweredOr (2 ∷ []) (orientationOf o)
+unfolding orientationOf numberOf
+orientation o = by-test (ltb 5 o) Is.Orientation tt λ h. answer
+
+parity : (t : Triple) → AnsweredOr (4 ∷ []) (parityOf t)
+unfolding parityOf numberOf
+parity t = by-test (not (goodSum t)) Is.Sum tt λ g. answer
+
+flavor : (r : ℕ) (t : Triple) → AnsweredOr (1 ∷ 4 ∷ 5 ∷ []) (flavorOf r t)
+unfolding flavorOf numberOf
+flavor r t =
+    by-test (ltb 30 r) Is.Resolution tt λ k. by-test (not (goodSum t)) Is.Sum tt λ g. by-test (not (inBounds r t)) Is.Bounds tt λ b. answer
+
+-- ---- positions and cells, with whatever other numbers a call has that asks for them
+module _ {numbers : List ℕ} (o r : ℕ) where
+  cell : (s : ℕ) → T (isAmong 1 numbers) → T (isAmong 2 numbers) → T (isAmong 3 numbers) → AnsweredOr numbers (cellOf o r s)
+  unfolding cellOf numberOf
+  cell s resolution orientation below =
+      by-test (ltb 30 r) Is.Resolution resolution λ k.
+      by-test (ltb 5 o) Is.Orientation orientation λ h.
+      by-test (leb (4 ^ r) s) Is.Position below λ l.
+      by-answer (numbers-of o r (ltb-false 5 o h) (ltb-false 30 r k) .cell-is s (leb-false (4 ^ r) s l))
+
+  position : (t : Triple) → T (isAmong 1 numbers) → T (isAmong 2 numbers) → T (isAmong 4 numbers) → T (isAmong 5 numbers) → AnsweredOr numbers (positionOf o r t)
+  unfolding positionOf numberOf
+  position t resolution orientation sum bounds =
+      by-test (ltb 30 r) Is.Resolution resolution λ k.
+      by-test (ltb 5 o) Is.Orientation orientation λ h.
+      by-test (not (goodSum t)) Is.Sum sum λ g.
+      by-test (not (inBounds r t)) Is.Bounds bounds λ b.
+      by-answer (numbers-of o r (ltb-false 5 o h) (ltb-false 30 r k) .finds t (not-false (inBounds r t) b))
+
+-- ---- corner sums
+corner-sum : (t : Triple) → AnsweredOr (4 ∷ []) (cornerSumOf t)
+unfolding cornerSumOf numberOf
+corner-sum t = by-test (not (goodSum t)) Is.Sum tt λ g. answer
+
+inverse : (p : AB) → AnsweredOr (6 ∷ []) (tripleOf p)
+inverse p = ⊎-elim (λ h. by-answer (h .2)) (λ e. rw e (refusal tt)) (inverse-refused p)
+
+-- ---- nodes
+axiom-node : (o : ℕ) → AnsweredOr (2 ∷ []) (axiomNodeOf o)
+unfolding axiomNodeOf numberOf
+axiom-node o = by-test (ltb 5 o) Is.Orientation tt λ h. answer
+
+node : (o r : ℕ) (t : Triple) → AnsweredOr (1 ∷ 2 ∷ 4 ∷ 5 ∷ []) (nodeOf o r t)
+unfolding nodeOf
+node o r t = by-step (position o r t tt tt tt tt) λ p. answer
+
+within : (r : ℕ) (t : Told Named) → AnsweredOr (1 ∷ 2 ∷ 7 ∷ 8 ∷ 5 ∷ []) (bounded r t)
+unfolding numberOf
+within r (told c) = by-test (not (inBounds r (c .triple))) Is.Bounds tt λ b. answer
+within r (refused n) = refusal tt
+
+child : (o r : ℕ) (n : Node) (d : ℕ) → AnsweredOr (1 ∷ 2 ∷ 7 ∷ 8 ∷ 5 ∷ []) (childOf o r n d)
+unfolding childOf numberOf
+child o r n d =
+    by-test (eqb r 0 || ltb 30 r) Is.Resolution tt λ k.
+    by-test (ltb 5 o) Is.Orientation tt λ h.
+    by-test (not (goodNode n)) Is.Node tt λ g.
+    by-test (ltb 3 d) Is.Digit tt λ l.
+    by-step (within r (named o r (childCell n (digitOf o d)))) λ c. answer
+
+-- ---- points
+point : {numbers : List ℕ} (r : ℕ) (i j : Float) → T (isAmong 1 numbers) → T (isAmong 9 numbers) → AnsweredOr numbers (pointOf r i j)
+unfolding pointOf numberOf
+point r i j resolution far = by-test (ltb 30 r) Is.Resolution resolution λ k. by-test (not (near i && near j)) Is.Point far λ n. answer
+
+-- ---- grammars
+word : (word buffer : List ℕ) → AnsweredOr (10 ∷ []) (writtenTo word buffer)
+unfolding writtenTo numberOf
+word w buffer = by-test (ltb (length buffer) (length w)) Is.Room tt λ room. answer
+
+-- nothing against the text, or a number from 12 to 20
+data Judged : Verdict → Type 0 where
+  good : Judged fine
+  bad : {n line : ℕ} → 12 ≤ n → n ≤ 20 → Judged (fault n line)
+
+by-lines : (n line : ℕ) {next : Verdict} → 12 ≤ n → n ≤ 20 → Judged next → Judged (faultAt n line next)
+by-lines n zero h k rest = rest
+by-lines n (suc line) h k rest = bad h k
+
+by-rows : (rows : List Row) {next : Verdict} → Judged next → Judged (someRows rows next)
+by-rows [] rest = bad {n = 12} (omega arith) (omega arith)
+by-rows (r ∷ rs) rest = by-lines 12 (first badShape (r ∷ rs)) (omega arith) (omega arith) rest
+
+judged : (text : List ℕ) → Judged (verdict text)
+unfolding verdict textTests lineTests splitTests
+judged text =
+    let ls = linesOf text in
+    by-rows (rowsOf text)
+    (by-lines 13 (first badMotif ls) (omega arith) (omega arith)
+    (by-lines 14 (first (λ _. badRule ls) ls) (omega arith) (omega arith)
+    (by-lines 15 (first (λ _. badCount ls) ls) (omega arith) (omega arith)
+    (by-lines 16 (first (λ _. badHeading ls) ls) (omega arith) (omega arith)
+    (by-lines 17 (first (λ _. badDraw) ls) (omega arith) (omega arith)
+    (by-lines 18 (first (λ _. badTurns ls) ls) (omega arith) (omega arith)
+    (by-lines 19 (first (λ _. badNet ls) ls) (omega arith) (omega arith)
+    (by-lines 20 (first (λ _. badSplit ls) ls) (omega arith) (omega arith) good))))))))
+
+compiler : (text : List ℕ) (table : List ℤ) → CompiledOr (compiledTo text table)
+unfolding compiledTo numberOf
+compiler text table = go (verdict text) (ltb (length table) (length (tableFor text))) (judged text)
+  where
+    go : (v : Verdict) (b : Bool) → Judged v → CompiledOr (unless v (cond b (Compiler.refused 10) (states (2 * length (tokenBytes (linesOf text))))))
+    go fine true good = refl
+    go fine false good = tt
+    go (fault n line) b (bad h k) = (h, k)
+
+descent : (table : List ℤ) (n r token s : ℕ) → AnsweredOr (1 ∷ 22 ∷ 3 ∷ []) (descentOf table n r token s)
+unfolding descentOf numberOf
+descent table n r token s =
+    by-test (eqb r 0 || ltb 30 r) Is.Resolution tt λ k.
+    by-test (not (goodTable table n token)) Is.Table tt λ g.
+    by-test (leb (4 ^ r) s) Is.Position tt λ l. answer
+
+-- ---- codes
+writing : (o r s : ℕ) (buffer : List ℕ) → AnsweredOr (1 ∷ 2 ∷ 3 ∷ 10 ∷ []) (writeOf o r s buffer)
+unfolding writeOf numberOf
+writing o r s buffer =
+    by-test (ltb 30 r) Is.Resolution tt λ k.
+    by-test (ltb 5 o) Is.Orientation tt λ h.
+    by-test (leb (4 ^ r) s) Is.Position tt λ l.
+    by-test (ltb (length buffer) (codeLength r)) Is.Room tt λ room. answer
+
+reading : (bytes : List ℕ) → AnsweredOr (11 ∷ 1 ∷ 2 ∷ []) (readOf bytes)
+unfolding readOf numberOf
+reading bytes =
+    let o = valueOf (take 3 (allBits bytes)) in
+    let r = valueOf (take 5 (drop 3 (allBits bytes))) in
+    by-test (eqb (length bytes) 0) Is.Code tt λ some.
+    by-test (ltb 30 r) Is.Resolution tt λ k.
+    by-test (ltb 5 o) Is.Orientation tt λ h.
+    by-test (ltb (length bytes) (codeLength r)) Is.Code tt λ whole. answer
+
+-- ---- lines and queries
+up-to : (most : ℕ) (w : List ℕ) → AnsweredOr (21 ∷ []) (upTo most w)
+unfolding upTo numberOf
+up-to most w = by-test (not (isDecimal w) || ltb most (valueAfter 10 0 w)) Is.Line tt λ e. answer
+
+integer : (w : List ℕ) → AnsweredOr (21 ∷ []) (i32 w)
+unfolding i32 numberOf
+integer [] = refusal tt
+integer (b ∷ w) = go (eqb b 45)
+  where
+    go : (minus : Bool) → AnsweredOr (21 ∷ []) (cond minus (upTo (2 ^ 31) w >>= λ n. refuse (eqb n 0) Is.Line (told (negℤ (pos n)))) (upTo (2 ^ 31 - 1) (b ∷ w) >>= λ n. told (pos n)))
+    go true = by-step (up-to (2 ^ 31) w) λ n. by-test (eqb n 0) Is.Line tt λ e. answer
+    go false = by-step (up-to (2 ^ 31 - 1) (b ∷ w)) λ n. answer
+
+float : (w : List ℕ) → AnsweredOr (21 ∷ []) (f64 w)
+unfolding f64 numberOf
+float w = by-test (not (eqb (length w) 16 && allDigits 16 w)) Is.Line tt λ e. answer
+
+line : (line : List ℕ) → AnsweredOr (21 ∷ []) (queryOf line)
+unfolding queryOf numberOf positionQuery cellQuery pointQuery
+line l =
+    let w = fieldsOf l in
+    by-test (ltb 64 (length l)) Is.Line tt λ e.
+    by-choice (starts 80 4 w) (by-step (up-to 255 (getD w 1 [])) λ o. by-step (up-to 255 (getD w 2 [])) λ r. by-step (up-to (2 ^ 64 - 1) (getD w 3 [])) λ s. answer)
+    (by-choice (starts 67 6 w) (by-step (up-to 255 (getD w 1 [])) λ o. by-step (up-to 255 (getD w 2 [])) λ r. by-step (integer (getD w 3 [])) λ x. by-step (integer (getD w 4 [])) λ y. by-step (integer (getD w 5 [])) λ z. answer)
+    (by-choice (starts 82 5 w) (by-step (up-to 255 (getD w 1 [])) λ o. by-step (up-to 255 (getD w 2 [])) λ r. by-step (float (getD w 3 [])) λ i. by-step (float (getD w 4 [])) λ j. answer) (refusal tt)))
+
+query : (q : Query) → AnsweredOr (1 ∷ 2 ∷ 3 ∷ 4 ∷ 5 ∷ 9 ∷ []) (answerOf q)
+unfolding answerOf numberOf
+query (Query.Position o r s) = by-step (cell o r s tt tt tt) λ c. answer
+query (Query.Cell o r t) = by-step (position o r t tt tt tt tt) λ p. answer
+query (Query.Point o r i j) =
+    by-test (ltb 30 r) Is.Resolution tt λ k.
+    by-test (ltb 5 o) Is.Orientation tt λ h.
+    by-step (point r i j tt tt) λ t. by-step (position o r t tt tt tt tt) λ p. answer
+
+print : (text buffer : List ℕ) → AnsweredOr (10 ∷ []) (printOf text buffer)
+unfolding printOf numberOf
+print text buffer = by-test (ltb (length buffer) (length text)) Is.Room tt λ room. answer
+
+pub refusals : Refusals
+refusals = record {
+  orientation = orientation;
+  parity = parity;
+  flavor = flavor;
+  corner-sum = corner-sum;
+  inverse = inverse;
+  cell = λ o r s. cell o r s tt tt tt;
+  position = λ o r t. position o r t tt tt tt tt;
+  axiom-node = axiom-node;
+  node = node;
+  child = child;
+  point = λ r i j. point r i j tt tt;
+  word = word;
+  compiler = compiler;
+  descent = descent;
+  writing = writing;
+  reading = reading;
+  line = line;
+  query = query;
+  print = print;
+}

@@ -1,0 +1,213 @@
+-- WHAT WAS ASKED, over the public definitions alone: a record for each subject, in the order of the requirements, and a field for each sentence.
+-- That the functions answer what the definitions say is in their contracts; that the records hold is in proofs/, a theorem for each.
+use mathlib.Core.Path.{_≡_}
+use mathlib.Core.Logic.{_↔_}
+use mathlib.Core.Bool.{Bool, true, false, _||_}
+use mathlib.Core.List.{List, [], _∷_}
+use Prim.Native.Nat.{ℕ, _+_, _*_, _/_, _^_, _<_, _≤_}
+use lib.Dec.{T, eqb}
+use lib.IntN.{ℤ}
+use lib.Ieee.{Float}
+use lib.ListN.{length, getD, drop}
+use Rattle.triple.specs.declared.Triple.{Triple}
+use Rattle.triple.specs.Refusals.{Told, told, refused, _>>=_}
+use Rattle.triple.specs.Triples.{inBounds, parityOf, closedFlavor, flavorOf}
+use Rattle.triple.specs.Orientations.{orientationOf}
+use Rattle.turtle.specs.declared.AB.{AB}
+use Rattle.turtle.specs.declared.walk.Cell.{Cell}
+use Rattle.turtle.specs.Corners.{cornerSumOf, tripleOf, HasTriple}
+use Rattle.grammar.specs.Texts.{linesOf}
+use Rattle.grammar.specs.Curves.{drawing, tokenBytes, letterOf}
+use Rattle.grammar.specs.WordAnswers.{writtenTo, afterWord}
+use Rattle.tables.specs.Children.{noCell}
+use Rattle.tables.specs.Table.{leafOf}
+use Rattle.tables.specs.Compiler.{Compiled, states, compiledTo, afterCompile}
+use Rattle.tables.specs.Compiler as Compiler
+use Rattle.tables.specs.Descent.{descentOf}
+use Rattle.a5.specs.A5.{a5Text}
+use Rattle.lsystem.specs.declared.Named.{Named}
+use Rattle.lsystem.specs.declared.Position.{Position}
+use Rattle.lsystem.specs.Cells.{drawnCell, named, cellOf, positionOf}
+use Rattle.nodes.specs.declared.Node.{Node}
+use Rattle.nodes.specs.Nodes.{goodNode, childOf, nodeOf}
+use Rattle.nodes.specs.NodeAnswers.{axiomNodeOf}
+use Rattle.nodes.specs.NodeWalks.{walkedNode, lastStep}
+use Rattle.curve.specs.Points.{pointOf}
+use Rattle.code.specs.Codes.{writeOf, afterWrite, readOf}
+use Rattle.query.specs.declared.Query.{Query}
+use Rattle.query.specs.Queries.{answerOf}
+use Rattle.query.specs.Lines.{queryOf}
+use Rattle.query.specs.Prints.{printOf, afterPrint}
+use Rattle.capi.specs.Lent.{Called, CalledBoth}
+use Rattle.capi.specs.Calls.{CompileCalled}
+use Rattle.demands.specs.Dozen.{Dozen}
+
+-- ---- calls: every call on every input ends with an answer or a numbered refusal
+abbrev pub isAmong : ℕ → List ℕ → Bool
+isAmong n [] = false
+isAmong n (m ∷ ms) = eqb n m || isAmong n ms
+
+-- an answer, or a refusal by one of the numbers
+pub data AnsweredOr {A : Type 0} (numbers : List ℕ) : Told A → Type 0 where
+  answer : {a : A} → AnsweredOr numbers (told a)
+  refusal : {n : ℕ} → T (isAmong n numbers) → AnsweredOr numbers (refused n)
+
+-- a number of states, a refusal from 12 to 20 with its line, or 10
+abbrev pub CompiledOr : Compiled → Type 0
+CompiledOr (states n) = Unit
+CompiledOr (Compiler.faulty n line) = (12 ≤ n) × (n ≤ 20)
+CompiledOr (Compiler.refused n) = n ≡ 10
+
+-- each call's numbers, as they are tested
+pub record Refusals : Type 0 where
+  -- the orientation that has a number
+  pub orientation : (o : ℕ) → AnsweredOr (2 ∷ []) (orientationOf o)
+  -- a triple's parity
+  pub parity : (t : Triple) → AnsweredOr (4 ∷ []) (parityOf t)
+  -- a triple's flavor
+  pub flavor : (r : ℕ) (t : Triple) → AnsweredOr (1 ∷ 4 ∷ 5 ∷ []) (flavorOf r t)
+  -- a triple's corner sum
+  pub corner-sum : (t : Triple) → AnsweredOr (4 ∷ []) (cornerSumOf t)
+  -- the triple that has a corner sum
+  pub inverse : (p : AB) → AnsweredOr (6 ∷ []) (tripleOf p)
+  -- the cell that a position names
+  pub cell : (o r s : ℕ) → AnsweredOr (1 ∷ 2 ∷ 3 ∷ []) (cellOf o r s)
+  -- the position that names a triple
+  pub position : (o r : ℕ) (t : Triple) → AnsweredOr (1 ∷ 2 ∷ 4 ∷ 5 ∷ []) (positionOf o r t)
+  -- the node of an orientation's axiom
+  pub axiom-node : (o : ℕ) → AnsweredOr (2 ∷ []) (axiomNodeOf o)
+  -- the node of a triple
+  pub node : (o r : ℕ) (t : Triple) → AnsweredOr (1 ∷ 2 ∷ 4 ∷ 5 ∷ []) (nodeOf o r t)
+  -- a child step
+  pub child : (o r : ℕ) (n : Node) (d : ℕ) → AnsweredOr (1 ∷ 2 ∷ 7 ∷ 8 ∷ 5 ∷ []) (childOf o r n d)
+  -- a point's triple
+  pub point : (r : ℕ) (i j : Float) → AnsweredOr (1 ∷ 9 ∷ []) (pointOf r i j)
+  -- a word, reversed or expanded, written to a buffer
+  pub word : (word buffer : List ℕ) → AnsweredOr (10 ∷ []) (writtenTo word buffer)
+  -- a text compiled into a table
+  pub compiler : (text : List ℕ) (table : List ℤ) → CompiledOr (compiledTo text table)
+  -- a table descended, whoever wrote it
+  pub descent : (table : List ℤ) (n r token s : ℕ) → AnsweredOr (1 ∷ 22 ∷ 3 ∷ []) (descentOf table n r token s)
+  -- a code written
+  pub writing : (o r s : ℕ) (buffer : List ℕ) → AnsweredOr (1 ∷ 2 ∷ 3 ∷ 10 ∷ []) (writeOf o r s buffer)
+  -- a code read: 11 where it is empty, and after 2 where it is cut short
+  pub reading : (bytes : List ℕ) → AnsweredOr (11 ∷ 1 ∷ 2 ∷ []) (readOf bytes)
+  -- the query of a line
+  pub line : (line : List ℕ) → AnsweredOr (21 ∷ []) (queryOf line)
+  -- the answer to a query: the numbers of all three kinds
+  pub query : (q : Query) → AnsweredOr (1 ∷ 2 ∷ 3 ∷ 4 ∷ 5 ∷ 9 ∷ []) (answerOf q)
+  -- a line printed
+  pub print : (text buffer : List ℕ) → AnsweredOr (10 ∷ []) (printOf text buffer)
+
+-- ---- lent buffers: a refused call changes none
+pub record LentBuffers : Type 1 where
+  -- that of a word
+  pub word : (word buffer : List ℕ) (n : ℕ) → writtenTo word buffer ≡ refused n → afterWord word buffer ≡ buffer
+  -- the table that is lent to the compiler
+  pub table : (text : List ℕ) (table : List ℤ) → ((n : ℕ) → compiledTo text table ≡ states n → ⊥) → afterCompile text table ≡ table
+  -- that of a code
+  pub code : (o r s : ℕ) (buffer : List ℕ) (n : ℕ) → writeOf o r s buffer ≡ refused n → afterWrite o r s buffer ≡ buffer
+  -- that of a line
+  pub line : (text buffer : List ℕ) (n : ℕ) → printOf text buffer ≡ refused n → afterPrint text buffer ≡ buffer
+  -- the slice of a call from C, where its status is not 0
+  pub slice : {A : Type 0} (call : Told (List A)) (slice after : List A) (status : ℕ) → Called call slice status after → (status ≡ 0 → ⊥) → after ≡ slice
+  -- both slices of one that has two
+  pub slices : {A B : Type 0} (call : Told (List A × List B)) (first x : List A) (second y : List B) (status : ℕ) → CalledBoth call first second status x y → (status ≡ 0 → ⊥) → (x ≡ first) × (y ≡ second)
+  -- the table of the one that compiles, which writes the line at fault to its other slice
+  pub compiled : (text : List ℕ) (table x : List ℤ) (out y : List ℕ) (status : ℕ) → CompileCalled text table out status x y → (status ≡ 0 → ⊥) → x ≡ table
+
+-- ---- corner sums
+pub record CornerSums : Type 0 where
+  -- the inverse answers t exactly when t has a sum of 0 or 1 and that corner sum, each coordinate is an i32, and the pair is within 2 ^ 34
+  pub answered : (p : AB) (t : Triple) → (tripleOf p ≡ told t) ↔ HasTriple p t
+  -- it refuses by 6 every other pair
+  pub refused-else : (p : AB) → (tripleOf p ≡ refused 6) ↔ ((t : Triple) → HasTriple p t → ⊥)
+  -- no two triples have one corner sum
+  pub unique : (t u : Triple) (p : AB) → cornerSumOf t ≡ told p → cornerSumOf u ≡ told p → t ≡ u
+
+-- ---- position and cell
+-- the triple that s names, and the position that t gives back, each without its flavor
+abbrev pub tripleNamed : ℕ → ℕ → ℕ → Told Triple
+tripleNamed o r s = cellOf o r s >>= λ c. told (c .triple)
+
+abbrev pub positionGiven : ℕ → ℕ → Triple → Told ℕ
+positionGiven o r t = positionOf o r t >>= λ p. told (p .s)
+
+-- at resolution r in orientation o
+pub record Numbering (o r : ℕ) : Type 0 where
+  -- from 1 up s names the cell that drawn letter number s of A5's curve hosts, counted from either end and moved as the orientation has it
+  pub drawn : (s : ℕ) → 1 ≤ r → s < 4 ^ r → cellOf o r s ≡ named o r (drawnCell o r s)
+  -- every position below 4 ^ r names a triple in bounds
+  pub in-bounds : (s : ℕ) → s < 4 ^ r → (t : Triple) × (inBounds r t ≡ true) × (tripleNamed o r s ≡ told t)
+  -- every triple in bounds is named by a position below 4 ^ r
+  pub all : (t : Triple) → inBounds r t ≡ true → (s : ℕ) × (s < 4 ^ r) × (tripleNamed o r s ≡ told t)
+  -- exactly once: two positions with one triple are one position
+  pub once : (s u : ℕ) (t : Triple) → tripleNamed o r s ≡ told t → tripleNamed o r u ≡ told t → s ≡ u
+  -- the triple gives its position back, and no other
+  pub back : (s : ℕ) (t : Triple) → (tripleNamed o r s ≡ told t) ↔ (positionGiven o r t ≡ told s)
+  -- a triple is refused exactly when no position names it
+  pub refused-unnamed : (t : Triple) → ((n : ℕ) × (positionOf o r t ≡ refused n)) ↔ ((s : ℕ) → tripleNamed o r s ≡ told t → ⊥)
+  -- the flavor of a position's cell is the closed formula's
+  pub flavor : (s : ℕ) (c : Named) → cellOf o r s ≡ told c → c .flavor ≡ closedFlavor r (c .triple)
+  -- and so is the one that comes with a triple's position
+  pub flavor-back : (t : Triple) (p : Position) → positionOf o r t ≡ told p → p .flavor ≡ closedFlavor r t
+
+-- ---- child steps: from the node of the orientation's own axiom, at resolutions 1 to r by the digits of s, highest first
+pub record ChildSteps (o r s : ℕ) : Type 0 where
+  -- r steps arrive at a node, and it is good, as was each before it
+  pub node : (n : Node) × (walkedNode o r s ≡ told n) × (goodNode n ≡ true)
+  -- the last of them reaches exactly the cell that s names
+  pub cell : 1 ≤ r → (lastStep o r s >>= λ c. told (c .cell)) ≡ cellOf o r s
+
+-- ---- points
+pub record Points : Type 0 where
+  -- the triple of a point is always in bounds
+  pub in-bounds : (r : ℕ) (i j : Float) (t : Triple) → pointOf r i j ≡ told t → inBounds r t ≡ true
+
+-- ---- grammars
+-- the full drawing of a text: r passes from the starting motif that is the token m
+abbrev pub fullDrawing : List ℕ → ℕ → ℕ → List Cell
+fullDrawing text r m = drawing (linesOf text) r (letterOf (linesOf text) m)
+
+-- of a text that the compiler answers with n states
+pub record Grammar (text : List ℕ) (table : List ℤ) (n : ℕ) : Type 0 where
+  -- that is two states for each token
+  pub count : n ≡ 2 * length (tokenBytes (linesOf text))
+  -- the full drawing has exactly 4 ^ r cells
+  pub cells : (r m : ℕ) → m < n / 2 → length (fullDrawing text r m) ≡ 4 ^ r
+  -- with 1 to 30 passes, any starting motif and any s below 4 ^ r, the descent over what the compiler leaves in the table gives the cell at that place
+  pub drawn : (r m s : ℕ) → 1 ≤ r → r ≤ 30 → m < n / 2 → s < 4 ^ r → descentOf (afterCompile text table) n r m s ≡ told (leafOf (getD (fullDrawing text r m) s noCell))
+  -- entries past the last state keep their old contents
+  pub past : drop (41 * n) (afterCompile text table) ≡ drop (41 * n) table
+
+-- ---- position codes: of one that was written in n bytes
+pub record Code (o r s : ℕ) (buffer : List ℕ) (n : ℕ) : Type 0 where
+  -- its length is 1 + ceil (r / 4)
+  pub long : n ≡ 1 + (r + 3) / 4
+  -- no byte past it is touched
+  pub past : drop n (afterWrite o r s buffer) ≡ drop n buffer
+  -- it reads back, whatever follows it
+  pub back : readOf (afterWrite o r s buffer) ≡ told (record { orientation = o; resolution = r; s = s; used = n })
+
+-- ---- ALL THAT WAS ASKED
+pub record Demands : Type 1 where
+  -- every call on every input ends with an answer or a numbered refusal
+  pub refusals : Refusals
+  -- and changes no lent buffer where it is refused
+  pub lent-buffers : LentBuffers
+  -- for every pair and every triple
+  pub corner-sums : CornerSums
+  -- at resolutions 0 to 30 and in six orientations
+  pub numbering : (o r : ℕ) → o ≤ 5 → r ≤ 30 → Numbering o r
+  -- there, for every position
+  pub child-steps : (o r s : ℕ) → o ≤ 5 → r ≤ 30 → s < 4 ^ r → ChildSteps o r s
+  -- for every point and every resolution
+  pub points : Points
+  -- for every text, every table and every number of states that the compiler answers
+  pub grammars : (text : List ℕ) (table : List ℤ) (n : ℕ) → compiledTo text table ≡ states n → Grammar text table n
+  -- of A5's text it answers 28, whatever table has the room
+  pub a5 : (table : List ℤ) → 41 * 28 ≤ length table → compiledTo a5Text table ≡ states 28
+  -- for everything that the writer answers, whatever its buffer held
+  pub codes : (o r s : ℕ) (buffer : List ℕ) (n : ℕ) → writeOf o r s buffer ≡ told n → Code o r s buffer n
+  -- the twelve worked examples
+  pub dozen : Dozen
