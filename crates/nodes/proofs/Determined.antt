@@ -3,6 +3,7 @@
 use mathlib.Core.Path.{_≡_, refl, sym, ap, _∙_}
 use mathlib.Core.Bool.{Bool}
 use Prim.Native.Nat.{ℕ}
+use lib.Ieee.{Float}
 use Rattle.triple.specs.declared.Triple.{Triple}
 use Rattle.triple.proofs.Determined.{one-to-one, determined, numbered, answerOf}
 use Rattle.nodes.specs.declared.Node.{Node}
@@ -26,6 +27,9 @@ child-back (ChildAnswer.Child c) = refl
 child-back (ChildAnswer.Refused e) = ap ChildAnswer.Refused (numbered e)
 
 -- ---- the operations
+pub new-determined : (motif flip : ℕ) (a b : Float) (m n : Node) → m ≡ record { motif = motif; flip = flip; «pos_a» = a; «pos_b» = b } → n ≡ record { motif = motif; flip = flip; «pos_a» = a; «pos_b» = b } → m ≡ n
+new-determined motif flip a b m n p q = p ∙ sym q
+
 pub is-good-determined : (n : Node) (a b : Bool) → a ≡ goodNode n → b ≡ goodNode n → a ≡ b
 is-good-determined n a b p q = p ∙ sym q
 

@@ -54,9 +54,9 @@ module _ (a : ℤ) (f : SFits w64 a) (h : natAbs a ≤ 2 ^ 38) where
   pub made-in : T (inFloat binary64 (toZ w64 (ofZ w64 a)))
   made-in = rw (toZ-ofZ w64 a f) (int-in a (N.le-trans h (lit≤ tt)))
 
-pub made : (m f : ℕ) (a b : ℤ) → f ≤ 1 → SFits w64 a → SFits w64 b → _≡_ {A = Node} (record { motif = m; flip = f; «pos_a» = ofInt binary64 (toZ w64 (ofZ w64 a)); «pos_b» = ofInt binary64 (toZ w64 (ofZ w64 b)) }) (node m (eqb f 1) (ab a b))
+pub made : (m f : ℕ) (a b : ℤ) → f ≤ 1 → SFits w64 a → SFits w64 b → (n : Node) → n ≡ record { motif = m; flip = f; «pos_a» = ofInt binary64 (toZ w64 (ofZ w64 a)); «pos_b» = ofInt binary64 (toZ w64 (ofZ w64 b)) } → n ≡ node m (eqb f 1) (ab a b)
 unfolding node
-made m f a b h fa fb = rw (bit-is f h, toZ-ofZ w64 a fa, toZ-ofZ w64 b fb)
+made m f a b h fa fb n e = e ∙ rw (bit-is f h, toZ-ofZ w64 a fa, toZ-ofZ w64 b fb)
 
 -- ---- what a good node has
 pub record Good (n : Node) : Type 0 where

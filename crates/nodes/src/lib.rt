@@ -74,21 +74,31 @@ pub enum ChildAnswer {
 
 impl Node {
     pub const GREATEST_MOTIF: u64 = 13;
+
+    pub const GREATEST_FLIP: u8 = 1;
     // The largest size of a position.
     pub const LIMIT: f64 = 68719476736.0;
 
-    // The one place where a node is made. Its positions may be beyond the limit, as those below a good
-    // node can be, and are exact all the same.
-    pub(crate) fn new(motif: u64, flip: u8, a: i64, b: i64) -> Self
-        requires { ⌜ (flip ≤ 1) × ((natAbs a ≤ 2 ^ 38) × (natAbs b ≤ 2 ^ 38)) ⌝ }
-        ensures { λ n. ⌜ n ≡ node motif (eqb flip 1) (ab a b) ⌝ }
+    // The one place where a node is made. Anything may stand in it: whether it is within the limits is
+    // what `is_good` tells.
+    pub fn new(motif: u64, flip: u8, pos_a: f64, pos_b: f64) -> Self
+        ensures { λ n. ⌜ n ≡ record { motif = motif; flip = flip; «pos_a» = «pos_a»; «pos_b» = «pos_b» } ⌝ }
     {
         Self {
             motif,
             flip,
-            pos_a: a as f64,
-            pos_b: b as f64,
+            pos_a,
+            pos_b,
         }
+    }
+
+    // The node of a motif and flip where a walk has arrived. Its positions may be beyond the limit, as
+    // those below a good node can be, and are exact all the same.
+    fn at(motif: u64, flip: u8, a: i64, b: i64) -> Self
+        requires { ⌜ (flip ≤ 1) × ((natAbs a ≤ 2 ^ 38) × (natAbs b ≤ 2 ^ 38)) ⌝ }
+        ensures { λ n. ⌜ n ≡ node motif (eqb flip 1) (ab a b) ⌝ }
+    {
+        Self::new(motif, flip, a as f64, b as f64)
     }
 
     pub fn is_good(self) -> bool
@@ -97,7 +107,7 @@ impl Node {
         if self.motif > Self::GREATEST_MOTIF {
             return false;
         }
-        if self.flip > 1 {
+        if self.flip > Self::GREATEST_FLIP {
             return false;
         }
         if !is_position(self.pos_a) {
@@ -172,7 +182,7 @@ impl Node {
     {
         let at = self.spot();
         let step = step_of(self.state(), digit);
-        Self::new(
+        Self::at(
             step.state / 2,
             (step.state % 2) as u8,
             2 * at.a + step.a,
@@ -206,7 +216,7 @@ pub fn axiom_node(orientation: u8) -> NodeAnswer
         return NodeAnswer::Refused(Refusal::Orientation);
     }
     let recipe = recipe_of(orientation);
-    NodeAnswer::Node(Node::new(recipe.state / 2, 0, 0, 0))
+    NodeAnswer::Node(Node::at(recipe.state / 2, 0, 0, 0))
 }
 
 // A reversed curve reads every digit from the other end.
@@ -316,5 +326,5 @@ fn node_below(orientation: u8, resolution: u8, s: u64) -> Node
     let recipe = recipe_of(orientation);
     let place = place_from(recipe.backward, resolution, s);
     let p = descend(recipe.state, resolution as u64, 4 * place);
-    Node::new(p.state / 2, (p.state % 2) as u8, p.a, p.b)
+    Node::at(p.state / 2, (p.state % 2) as u8, p.a, p.b)
 }

@@ -198,13 +198,7 @@ pub(crate) fn child(line: &[u8], out: &mut [u8]) -> usize
     let FloatWord::Float(pos_b) = float(word(line, 4)) else {
         return unread(out);
     };
-    let node = Node {
-        motif,
-        flip,
-        pos_a,
-        pos_b,
-    };
-    child_of(node, line, out)
+    child_of(Node::new(motif, flip, pos_a, pos_b), line, out)
 }
 
 // The step by the digit, resolution and orientation that the line's last three words write.

@@ -10,11 +10,11 @@ returns c = search (needs, axiom-refused)
 recipe-of-requires : tie.Need-recipe-of-requires
 recipe-of-requires c κs = search needs
 
-new-requires : tie.Need-new-requires
-new-requires c κs = search needs
+at-requires : tie.Need-at-requires
+at-requires c κs = search needs
 
 returns-2 : tie.Need-returns-2
 returns-2 c = search (needs, axiom-told)
 
 pub axiom-node-spec : {M : Type 1} → statement M
-axiom-node-spec = tie.close (tie.spec returns recipe-of-requires new-requires returns-2)
+axiom-node-spec = tie.close (tie.spec returns recipe-of-requires at-requires returns-2)

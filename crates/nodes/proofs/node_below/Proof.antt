@@ -24,11 +24,11 @@ descend-requires c κs =
     let d = c .before .before in
     (subst (λ k. k < 28) (sym (c .before .recipe-of .ensures .0)) (axiom-state-small _ (d .pre .0)), d .pre .1 .0)
 
-cast-new : tie.Need-cast-new
-cast-new c = search needs
+cast-at : tie.Need-cast-at
+cast-at c = search needs
 
-new-requires : tie.Need-new-requires
-new-requires c κs =
+at-requires : tie.Need-at-requires
+at-requires c κs =
     let d = c .before .before .before .before in
     let s = d .before .before .before in
     near-asked (d .descend .result) (end-near _ _ _ _ (subst (λ k. k < 28) (sym (d .before .before .recipe-of .ensures .0)) (axiom-state-small _ (s .pre .0))) (s .pre .1 .0) (d .descend .ensures))
@@ -37,7 +37,7 @@ returns : tie.Need-returns
 returns c =
     let d = c .before .before .before .before .before in
     let s = d .before .before .before in
-    c .new .ensures
+    c .at .ensures
     ∙ below-is (s .args .orientation) _ _ _ _ _ (s .pre .1 .0) (s .pre .1 .1) (d .before .before .recipe-of .ensures .1 .0) refl (d .before .place-from .ensures) (s .pre .0) _ (d .descend .result) (d .before .before .recipe-of .ensures .0) (d .descend .ensures)
 
 pub node-below-spec : {M : Type 1} → statement M
@@ -48,6 +48,6 @@ node-below-spec =
     place-from-requires
     mul-descend
     descend-requires
-    cast-new
-    new-requires
+    cast-at
+    at-requires
     returns)

@@ -43,35 +43,35 @@ offset-a c = v-abs (c .step-of .result .a) 16 (small c .0)
 abbrev offset-b : (c : tie.After-step-of) → View (c .step-of .result .b)
 offset-b c = v-abs (c .step-of .result .b) 16 (small c .1)
 
-cast-new : tie.Need-cast-new
-cast-new c = search needs
+cast-at : tie.Need-cast-at
+cast-at c = search needs
 
-mul-new : tie.Need-mul-new
-mul-new c =
+mul-at : tie.Need-mul-at
+mul-at c =
     let a = spot-a (c .before .before .before .before) in
     fits (search view) tt
 
-add-new : tie.Need-add-new
-add-new c =
+add-at : tie.Need-add-at
+add-at c =
     let k = c .before .before .before .before .before .before in
     let a = spot-a k in
     let o = offset-a k in
     fits (search view depth 9) tt
 
-mul-new-2 : tie.Need-mul-new-2
-mul-new-2 c =
+mul-at-2 : tie.Need-mul-at-2
+mul-at-2 c =
     let b = spot-b (c .before .before .before .before .before .before .before .before) in
     fits (search view) tt
 
-add-new-2 : tie.Need-add-new-2
-add-new-2 c =
+add-at-2 : tie.Need-add-at-2
+add-at-2 c =
     let k = c .before .before .before .before .before .before .before .before .before .before in
     let b = spot-b k in
     let o = offset-b k in
     fits (search view depth 9) tt
 
-new-requires : tie.Need-new-requires
-new-requires c κs =
+at-requires : tie.Need-at-requires
+at-requires c κs =
     let k = c .before .before .before .before .before .before .before .before .before .before in
     let g = k .before .before .before .pre .0 in
     let s = k .before .before .spot in
@@ -89,11 +89,11 @@ returns c =
     let b = spot-b k in
     let x = offset-a k in
     let y = offset-b k in
-    c .new .ensures
+    c .at .ensures
     ∙ ap (node (t .result .state / 2) (eqb (t .result .state % 2) 1)) (pair-is (eq-by (search view depth 9) (search view) tt (omega arith)) (eq-by (search view depth 9) (search view) tt (omega arith)))
     ∙ step-told (n .self) (k .before .before .before .pre .0) (n .digit) (k .before .before .before .pre .1) (s .result) (s .ensures) _ (k .before .state .ensures) _ _ _ (t .ensures .0) (t .ensures .1 .0) (t .ensures .1 .1)
 
 pub below-spec : {M : Type 1} → statement M
 below-spec =
     tie.close
-    (tie.spec spot-requires state-requires step-of-requires cast-new mul-new add-new mul-new-2 add-new-2 new-requires returns)
+    (tie.spec spot-requires state-requires step-of-requires cast-at mul-at add-at mul-at-2 add-at-2 at-requires returns)
