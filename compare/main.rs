@@ -73,7 +73,7 @@ fn random(all: &mut u64, random: &mut Random) {
 }
 
 fn node(n: &CurveNode) -> Node {
-    Node { motif: n.motif as u64, flip: n.flip, a: n.pos_a, b: n.pos_b }
+    Node { motif: n.motif as i32, flip: n.flip as i32, a: n.pos_a, b: n.pos_b }
 }
 
 fn nodes(all: &mut u64, random: &mut Random) {

@@ -1,14 +1,20 @@
 /* Haspbarley: the lattice walk of A5, as a static library.
  *
- * Every function takes every input. It returns HB_OK and writes its values at the front of the array
+ * Every function takes every input. It returns HB_OK and writes its values at the front of the arrays
  * that it is lent, in the order in which they are listed, or it returns the number of a refusal and
- * leaves the array as it was. Elements behind the values are never touched. Refusals are tested in
+ * leaves the arrays as they were. Elements behind the values are never touched. Refusals are tested in
  * the order in which a function lists them, too short an array (HB_ROOM) always last.
  *
  * An array is passed as a pointer and its length in elements. The pointer must be good for that many
- * elements and must not be NULL, not even where the length is 0. Two arrays of one call must not
- * overlap. No function keeps a pointer, allocates, or has any state: calls may be made from any
- * thread.
+ * elements and aligned for them; where the length is 0 it is not used, and may be NULL. An array that
+ * is written must not overlap another of the same call. No function keeps a pointer, allocates, or has
+ * any state: calls may be made from any thread. Of the C library only memcpy and memset are used.
+ *
+ * hb_point and hb_line compute in double and need the default floating-point environment: rounding to
+ * nearest, no flush to zero, no trap. In another rounding mode a point can fall into another cell. The
+ * other functions compute in whole numbers, and what is double there is exact in every mode.
+ *
+ * A call takes at most 16 KB of stack for hb_compile, 2 KB for hb_line, and 512 bytes for any other.
  *
  * orientation  0 to 5: UV, VU, UW, WU, VW, WV
  * resolution   0 to 30
@@ -21,6 +27,19 @@
 
 #include <stddef.h>
 #include <stdint.h>
+
+#define HB_VERSION "0.2.0"
+#define HB_VERSION_MAJOR 0
+#define HB_VERSION_MINOR 2
+#define HB_VERSION_PATCH 0
+/* to compare: 0.2.0 is 200 */
+#define HB_VERSION_NUMBER (HB_VERSION_MAJOR * 10000 + HB_VERSION_MINOR * 100 + HB_VERSION_PATCH)
+
+#define HB_CODE_BYTES 9        /* the longest code of a position */
+#define HB_LINE_BYTES 64       /* the longest line that is a query */
+#define HB_ANSWER_BYTES 107    /* room for the answer to any line */
+#define HB_STATE_NUMBERS 41    /* a table's numbers for each state */
+#define HB_TABLE_NUMBERS 1312  /* room for the table of any text: 32 states */
 
 #ifdef __cplusplus
 extern "C" {
@@ -39,7 +58,29 @@ enum {
     HB_POINT = 9,       /* a coordinate that is NaN, infinite or beyond 2^31 in size */
     HB_ROOM = 10,       /* an array shorter than what is to be written to it */
     HB_CODE = 11,       /* a code that is empty or cut short */
-    HB_TABLE = 22       /* a state count, a token or an entry of a table that is not good */
+
+    /* a grammar's text, by the line at fault */
+    HB_SHAPE = 12,      /* a line of another shape, no line, or more than eight */
+    HB_MOTIF = 13,      /* a motif letter not uppercase, one of E S U D T, or repeated */
+    HB_RULE = 14,       /* a rule byte that is neither a turn nor a listed motif's letter */
+    HB_CHILDREN = 15,   /* a rule without exactly four children */
+    HB_HEADING = 16,    /* a child at a heading other than 0 or 3, in the rule or its reverse */
+    HB_DRAW = 17,       /* a draw that is not turns and exactly one of E e S s D d T t */
+    HB_TURNS = 18,      /* a rule or draw that does not end at heading 0 */
+    HB_NET = 19,        /* a net after two passes that is not twice the net after one */
+    HB_SPLIT = 20,      /* children that no lines tell apart */
+
+    HB_LINE = 21,       /* a line that is no query; only in the answer of hb_line */
+    HB_TABLE = 22,      /* a state count, a token or an entry of a table that is not good */
+
+    /* of operations to come: no function of this version returns them */
+    HB_PASSES = 23,     /* passes to draw 0 or above 6 */
+    HB_SPARE = 24,      /* a code whose spare bits are not zero */
+    HB_ORDER = 25,      /* positions or cells out of order */
+    HB_PART = 26,       /* a part of a table that starts or ends past it */
+    HB_POLYGON = 27,    /* text that is no cell's polygon */
+    HB_RETIRED = 28,    /* a code to be written in an orientation that is no longer */
+    HB_LONG = 29        /* more codes than are checked at once */
 };
 
 /* The cell that the position s names.
@@ -58,12 +99,12 @@ uint8_t hb_node(uint8_t orientation, uint8_t resolution, int32_t x, int32_t y, i
                 size_t numbers_len, double *places, size_t places_len);
 
 /* The child step from a node by a digit of the curve, to the child's resolution. A node is good whose
- * motif is at most 13, its flip 0 or 1, and each position a whole multiple of 4, at most 2^36 in size,
- * and not negative zero; the node of UV's and VU's wedge at resolution 0 is 0 0 0.0 0.0, of UW's and
- * WU's 2 0 0.0 0.0, and of VW's and WV's 1 0 0.0 0.0.
+ * motif is 0 to 13, its flip 0 or 1, and each position a whole multiple of 4, at most 2^36 in size, and
+ * not negative zero; the node of UV's and VU's wedge at resolution 0 is 0 0 0.0 0.0, of UW's and WU's
+ * 2 0 0.0 0.0, and of VW's and WV's 1 0 0.0 0.0. What comes out as a node goes in as it is.
  * Values: x y z flavor motif flip (6) to numbers, and the two positions of the node below the child (2)
  * to places; both or, on a refusal, neither. Refusals: 1 (also at resolution 0), 2, 7, 8, 5, 10. */
-uint8_t hb_child(uint64_t motif, uint8_t flip, double a, double b, uint8_t digit, uint8_t resolution,
+uint8_t hb_child(int32_t motif, int32_t flip, double a, double b, uint8_t digit, uint8_t resolution,
                  uint8_t orientation, int32_t *numbers, size_t numbers_len, double *places, size_t places_len);
 
 /* The triple of the cell that the point (i, j) falls in, brought into bounds.
@@ -78,7 +119,7 @@ uint8_t hb_corner_sum(int32_t x, int32_t y, int32_t z, int64_t *out, size_t out_
  * Values: x y z (3). Refusals: 6, 10. */
 uint8_t hb_triple(int64_t a, int64_t b, int32_t *out, size_t out_len);
 
-/* Writes the code of a position, 1 + ceil(resolution / 4) bytes, at most 9.
+/* Writes the code of a position, 1 + ceil(resolution / 4) bytes, at most HB_CODE_BYTES.
  * Values: the code to bytes, and the count of its bytes (1) to out; both or, on a refusal, neither.
  * Refusals: 1, 2, 3, 10. */
 uint8_t hb_code_write(uint8_t orientation, uint8_t resolution, uint64_t s, uint8_t *bytes, size_t bytes_len,
@@ -89,15 +130,15 @@ uint8_t hb_code_write(uint8_t orientation, uint8_t resolution, uint64_t s, uint8
  * Refusals: 11 where there is no byte, 1, 2, 11 where the code is cut short, 10. */
 uint8_t hb_code_read(const uint8_t *bytes, size_t bytes_len, uint64_t *out, size_t out_len);
 
-/* The answer to one query line as the program wedge prints it, without LF: at most 107 bytes. A line
- * that is refused has an answer too, '!' and the refusal's number.
+/* The answer to one query line, of at most HB_LINE_BYTES without LF, as the program wedge prints it,
+ * without LF: at most HB_ANSWER_BYTES. A line that is refused has an answer too, '!' and the number.
  * Values: the answer to text, and its length (1) to out; both or, on a refusal, neither. Refusals: 10. */
 uint8_t hb_line(const uint8_t *line, size_t line_len, uint8_t *text, size_t text_len, uint64_t *out, size_t out_len);
 
 /* The cell at place s, below 4^passes, of what a table gives from a token after 1 to 30 passes. The
- * table has 41 numbers for each state, in state order: 4 child states, 4 offset pairs, 4 leaf sums
- * (pairs), 4 flavors, and 17 that a descent does not look at. It may be anyone's: states has to be a
- * multiple of 4 from 4 to 32 and no more than the table holds, token below half of it, and in every
+ * table has HB_STATE_NUMBERS for each state, in state order: 4 child states, 4 offset pairs, 4 leaf
+ * sums (pairs), 4 flavors, and 17 that a descent does not look at. It may be anyone's: states has to be
+ * a multiple of 4 from 4 to 32 and no more than the table holds, token below half of it, and in every
  * state each child state below states, each flavor 0 to 3, each offset and leaf sum at most 4096 in
  * size; all else is 22.
  * Values: a b flavor (3), the cell's corner sum and flavor. Refusals: 1 (also at 0 passes), 22, 3, 10. */
@@ -105,11 +146,16 @@ uint8_t hb_descend(const int32_t *table, size_t table_len, uint64_t states, uint
                    int64_t *out, size_t out_len);
 
 /* Compiles a grammar's text: one to eight lines, each a motif letter, its rule and its draw, set apart
- * by single spaces and ended by LF. A table of 32 states, 1312 numbers, has room for every text.
- * Values: each state's 41 numbers to table, in state order, and the number of states (1) to out; both or,
- * on a refusal, neither. The one exception: of a text that is refused by 12 to 20, out has the number of
- * the line at fault, from 1, or 0 of the empty text. Refusals: 12 to 20, 10. */
-uint8_t hb_compile(const uint8_t *text, size_t text_len, int32_t *table, size_t table_len, uint64_t *out, size_t out_len);
+ * by single spaces and ended by LF. A table of HB_TABLE_NUMBERS has room for every text.
+ * Values: each state's numbers to table, in state order, and the number of states (1) to out; both or,
+ * on a refusal, neither. What it returns has the refusal's number in the low byte and, of 12 to 20, the
+ * number of the line at fault in the high byte, from 1, or 0 of the empty text.
+ * Refusals: 12 to 20, 10. */
+uint16_t hb_compile(const uint8_t *text, size_t text_len, int32_t *table, size_t table_len, uint64_t *out, size_t out_len);
+
+/* The parts of what hb_compile returns. */
+#define HB_REFUSAL(status) ((status) & 0xFF)
+#define HB_FAULT_LINE(status) ((status) >> 8)
 
 #ifdef __cplusplus
 }

@@ -5,11 +5,11 @@ extern "C" {
     fn hb_point(i: f64, j: f64, r: u8, out: *mut i32, len: usize) -> u8;
     fn hb_corner_sum(x: i32, y: i32, z: i32, out: *mut i64, len: usize) -> u8;
     fn hb_triple(a: i64, b: i64, out: *mut i32, len: usize) -> u8;
-    fn hb_child(motif: u64, flip: u8, a: f64, b: f64, digit: u8, r: u8, o: u8, out_i: *mut i32, len_i: usize, out_f: *mut f64, len_f: usize) -> u8;
+    fn hb_child(motif: i32, flip: i32, a: f64, b: f64, digit: u8, r: u8, o: u8, out_i: *mut i32, len_i: usize, out_f: *mut f64, len_f: usize) -> u8;
     fn hb_node(o: u8, r: u8, x: i32, y: i32, z: i32, out_i: *mut i32, len_i: usize, out_f: *mut f64, len_f: usize) -> u8;
     fn hb_line(line: *const u8, line_len: usize, text: *mut u8, text_len: usize, out: *mut u64, len: usize) -> u8;
     fn hb_descend(table: *const i32, table_len: usize, states: u64, passes: u8, token: u64, s: u64, out: *mut i64, len: usize) -> u8;
-    fn hb_compile(text: *const u8, text_len: usize, table: *mut i32, table_len: usize, out: *mut u64, len: usize) -> u8;
+    fn hb_compile(text: *const u8, text_len: usize, table: *mut i32, table_len: usize, out: *mut u64, len: usize) -> u16;
 }
 
 fn told<T>(status: u8, values: T) -> Result<T, u8> {
@@ -48,8 +48,8 @@ pub fn triple(a: i64, b: i64) -> Result<[i32; 3], u8> {
 
 #[derive(Clone, Copy, Debug, PartialEq)]
 pub struct Node {
-    pub motif: u64,
-    pub flip: u8,
+    pub motif: i32,
+    pub flip: i32,
     pub a: f64,
     pub b: f64,
 }
@@ -58,13 +58,13 @@ pub struct Node {
 pub fn child(n: Node, digit: u8, r: u8, o: u8) -> Result<([i32; 4], Node), u8> {
     let (mut i, mut f) = ([0i32; 6], [0f64; 2]);
     let status = unsafe { hb_child(n.motif, n.flip, n.a, n.b, digit, r, o, i.as_mut_ptr(), 6, f.as_mut_ptr(), 2) };
-    told(status, ([i[0], i[1], i[2], i[3]], Node { motif: i[4] as u64, flip: i[5] as u8, a: f[0], b: f[1] }))
+    told(status, ([i[0], i[1], i[2], i[3]], Node { motif: i[4], flip: i[5], a: f[0], b: f[1] }))
 }
 
 pub fn node(o: u8, r: u8, t: [i32; 3]) -> Result<Node, u8> {
     let (mut i, mut f) = ([0i32; 2], [0f64; 2]);
     let status = unsafe { hb_node(o, r, t[0], t[1], t[2], i.as_mut_ptr(), 2, f.as_mut_ptr(), 2) };
-    told(status, Node { motif: i[0] as u64, flip: i[1] as u8, a: f[0], b: f[1] })
+    told(status, Node { motif: i[0], flip: i[1], a: f[0], b: f[1] })
 }
 
 // The length of a line's answer, which is written to `text`.
@@ -85,6 +85,6 @@ pub fn compile(text: &[u8], table: &mut [i32]) -> Result<u64, (u8, u64)> {
     let mut out = [0];
     match unsafe { hb_compile(text.as_ptr(), text.len(), table.as_mut_ptr(), table.len(), out.as_mut_ptr(), 1) } {
         0 => Ok(out[0]),
-        status => Err((status, out[0])),
+        status => Err((status as u8, (status >> 8) as u64)),
     }
 }

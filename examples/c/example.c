@@ -42,8 +42,8 @@ static void walk(const uint8_t *digits, uint8_t count)
     int32_t numbers[6] = {0};
     double places[2] = {0.0, 0.0};
     for (uint8_t k = 0; k < count; k++) {
-        uint8_t status = hb_child((uint64_t)numbers[4], (uint8_t)numbers[5], places[0], places[1], digits[k],
-                                  (uint8_t)(k + 1), 0, numbers, 6, places, 2);
+        uint8_t status = hb_child(numbers[4], numbers[5], places[0], places[1], digits[k], (uint8_t)(k + 1), 0,
+                                  numbers, 6, places, 2);
         printf("child %d at %d:", digits[k], k + 1);
         show_i32(status, numbers, 4);
     }
@@ -55,9 +55,18 @@ static void walk(const uint8_t *digits, uint8_t count)
     printf("the walk's own: %s\n", same ? "yes" : "no");
 }
 
+/* One step from a node of the wedge itself, or of numbers that are no node's. */
+static void child(int32_t motif, int32_t flip, uint8_t resolution)
+{
+    int32_t numbers[6] = {0};
+    double places[2] = {0.0, 0.0};
+    printf("child of %" PRId32 " %" PRId32 " at %d:", motif, flip, resolution);
+    show_i32(hb_child(motif, flip, 0.0, 0.0, 0, resolution, 0, numbers, 6, places, 2), numbers, 6);
+}
+
 static void line(const char *query)
 {
-    uint8_t text[107];
+    uint8_t text[HB_ANSWER_BYTES];
     uint64_t length[1] = {0};
     uint8_t status = hb_line((const uint8_t *)query, strlen(query), text, sizeof text, length, 1);
     printf("line %s: %d, %.*s\n", query, status, (int)length[0], (const char *)text);
@@ -91,11 +100,11 @@ static void triple(int64_t a, int64_t b)
 /* The code of a position, and what it says when it is read back. */
 static void code(uint8_t orientation, uint8_t resolution, uint64_t s)
 {
-    uint8_t bytes[9];
+    uint8_t bytes[HB_CODE_BYTES];
     uint64_t count[1];
     uint64_t out[4];
     printf("code %d %d %" PRIu64 ":", orientation, resolution, s);
-    uint8_t status = hb_code_write(orientation, resolution, s, bytes, 9, count, 1);
+    uint8_t status = hb_code_write(orientation, resolution, s, bytes, HB_CODE_BYTES, count, 1);
     if (status != HB_OK) {
         printf(" ! %d\n", status);
         return;
@@ -110,14 +119,14 @@ static void code(uint8_t orientation, uint8_t resolution, uint64_t s)
 }
 
 /* A table of one motif that no compiler wrote: each of its four states has itself for its children. */
-static int32_t by_hand[4 * 41];
+static int32_t by_hand[4 * HB_STATE_NUMBERS];
 
 static void write_by_hand(void)
 {
     static const int32_t places[8] = {0, 0, 4, 0, 4, -4, 8, -4};
     for (int32_t state = 0; state < 4; state++)
         for (int32_t digit = 0; digit < 4; digit++) {
-            int32_t *part = by_hand + 41 * state;
+            int32_t *part = by_hand + HB_STATE_NUMBERS * state;
             part[digit] = state;
             part[4 + 2 * digit] = part[12 + 2 * digit] = places[2 * digit];
             part[5 + 2 * digit] = part[13 + 2 * digit] = places[2 * digit + 1];
@@ -129,7 +138,7 @@ static void descend(uint64_t states, uint8_t passes, uint64_t token, uint64_t s)
 {
     int64_t out[3] = {0};
     printf("descend %" PRIu64 " %d %" PRIu64 " %" PRIu64 ":", states, passes, token, s);
-    uint8_t status = hb_descend(by_hand, 4 * 41, states, passes, token, s, out, 3);
+    uint8_t status = hb_descend(by_hand, 4 * HB_STATE_NUMBERS, states, passes, token, s, out, 3);
     if (status != HB_OK)
         printf(" ! %d\n", status);
     else
@@ -139,20 +148,20 @@ static void descend(uint64_t states, uint8_t passes, uint64_t token, uint64_t s)
 /* A grammar's text compiled, and the cell at a place of what its first motif draws. */
 static void compile(const char *name, const char *text, uint8_t passes, uint64_t s)
 {
-    static int32_t table[32 * 41];
-    uint64_t states[1];
+    static int32_t table[HB_TABLE_NUMBERS];
+    uint64_t states[1] = {7};
     int64_t out[3] = {0};
     printf("compile %s:", name);
-    uint8_t status = hb_compile((const uint8_t *)text, strlen(text), table, 32 * 41, states, 1);
+    uint16_t status = hb_compile((const uint8_t *)text, strlen(text), table, HB_TABLE_NUMBERS, states, 1);
     if (status != HB_OK) {
-        printf(" ! %d at line %" PRIu64 "\n", status, states[0]);
+        printf(" ! %d at line %d, left %" PRIu64 "\n", HB_REFUSAL(status), HB_FAULT_LINE(status), states[0]);
         return;
     }
-    status = hb_descend(table, 32 * 41, states[0], passes, 0, s, out, 3);
+    status = hb_descend(table, HB_TABLE_NUMBERS, states[0], passes, 0, s, out, 3);
     printf(" %" PRIu64 " states, place %" PRIu64 ": %d, %" PRId64 " %" PRId64 " %" PRId64 "\n", states[0], s, status, out[0], out[1], out[2]);
 }
 
-/* A refused call leaves what it was lent as it was. */
+/* A refused call leaves what it was lent as it was. Where a length is 0 there need be no array. */
 static void refused(void)
 {
     int32_t out[4] = {7, 7, 7, 7};
@@ -161,12 +170,12 @@ static void refused(void)
 
     uint8_t bytes[2] = {7, 7};
     uint64_t count[1] = {7};
-    status = hb_code_write(0, 2, 6, bytes, 2, count, 0);
+    status = hb_code_write(0, 2, 6, bytes, 2, NULL, 0);
     printf("code 0 2 6 with no place for the count: ! %d, left %d %d\n", status, bytes[0], bytes[1]);
     status = hb_code_write(0, 2, 6, bytes, 1, count, 1);
     printf("code 0 2 6 into one byte: ! %d, left %d, count left %" PRIu64 "\n", status, bytes[0], count[0]);
     uint64_t read[4] = {7, 7, 7, 7};
-    status = hb_code_read(bytes, 0, read, 4);
+    status = hb_code_read(NULL, 0, read, 4);
     printf("read no byte: ! %d, left %" PRIu64 "\n", status, read[0]);
 }
 
@@ -189,6 +198,11 @@ int main(void)
     position(0, 1, 0, 2, -2);
     position(0, 1, 1, 1, 1);
     walk((const uint8_t[]){1, 2}, 2);
+    child(0, 0, 1);
+    child(-1, 0, 1);
+    child(0, -1, 1);
+    child(14, 0, 1);
+    child(-1, 0, 0);
     line("P 0 1 2");
     line("P 0 1 4");
     line("p 0 1 4");

@@ -17,8 +17,8 @@ mod ffi {
             places_len: usize,
         ) -> u8;
         pub fn hb_child(
-            motif: u64,
-            flip: u8,
+            motif: i32,
+            flip: i32,
             a: f64,
             b: f64,
             digit: u8,
@@ -67,7 +67,7 @@ mod ffi {
             table_len: usize,
             out: *mut u64,
             out_len: usize,
-        ) -> u8;
+        ) -> u16;
     }
 }
 
@@ -89,7 +89,7 @@ mod haspbarley {
     }
 
     pub fn child(
-        (motif, flip, [a, b]): (u64, u8, [f64; 2]),
+        (motif, flip, [a, b]): (i32, i32, [f64; 2]),
         digit: u8,
         resolution: u8,
         orientation: u8,
@@ -127,7 +127,7 @@ mod haspbarley {
         unsafe { ffi::hb_code_read(bytes.as_ptr(), bytes.len(), out.as_mut_ptr(), out.len()) }
     }
 
-    pub fn compile(text: &[u8], table: &mut [i32], out: &mut [u64]) -> u8 {
+    pub fn compile(text: &[u8], table: &mut [i32], out: &mut [u64]) -> u16 {
         unsafe {
             ffi::hb_compile(text.as_ptr(), text.len(), table.as_mut_ptr(), table.len(), out.as_mut_ptr(), out.len())
         }
@@ -163,7 +163,7 @@ fn position(orientation: u8, resolution: u8, [x, y, z]: [i32; 3]) {
 fn walk(digits: &[u8]) {
     let (mut numbers, mut places) = ([0; 6], [0.0; 2]);
     for (k, &digit) in digits.iter().enumerate() {
-        let from = (numbers[4] as u64, numbers[5] as u8, places);
+        let from = (numbers[4], numbers[5], places);
         let status = haspbarley::child(from, digit, k as u8 + 1, 0, &mut numbers, &mut places);
         println!("child {digit} at {}: {}", k + 1, gives(status, &numbers[..4]));
     }
@@ -173,6 +173,13 @@ fn walk(digits: &[u8]) {
     println!("node of that cell: {}", gives(status, &node));
     let same = node == numbers[4..] && at == places;
     println!("the walk's own: {}", if same { "yes" } else { "no" });
+}
+
+/// One step from a node of the wedge itself, or of numbers that are no node's.
+fn child(motif: i32, flip: i32, resolution: u8) {
+    let (mut numbers, mut places) = ([0; 6], [0.0; 2]);
+    let status = haspbarley::child((motif, flip, [0.0; 2]), 0, resolution, 0, &mut numbers, &mut places);
+    println!("child of {motif} {flip} at {resolution}: {}", gives(status, &numbers));
 }
 
 fn line(query: &str) {
@@ -236,10 +243,10 @@ fn descend(table: &[i32], states: u64, passes: u8, token: u64, s: u64) {
 
 /// A grammar's text compiled, and the cell at a place of what its first motif draws.
 fn compile(name: &str, text: &str, passes: u8, s: u64) {
-    let (mut table, mut states, mut out) = ([0; 32 * 41], [0], [0; 3]);
+    let (mut table, mut states, mut out) = ([0; 32 * 41], [7], [0; 3]);
     let status = haspbarley::compile(text.as_bytes(), &mut table, &mut states);
     if status != 0 {
-        println!("compile {name}: ! {status} at line {}", states[0]);
+        println!("compile {name}: ! {} at line {}, left {}", status & 0xFF, status >> 8, states[0]);
         return;
     }
     let status = haspbarley::descend(&table, states[0], passes, 0, s, &mut out);
@@ -279,6 +286,11 @@ fn main() {
     position(0, 1, [0, 2, -2]);
     position(0, 1, [1, 1, 1]);
     walk(&[1, 2]);
+    child(0, 0, 1);
+    child(-1, 0, 1);
+    child(0, -1, 1);
+    child(14, 0, 1);
+    child(-1, 0, 0);
     line("P 0 1 2");
     line("P 0 1 4");
     line("p 0 1 4");

@@ -30,7 +30,7 @@ pub hb-node-determined : (o r : ℕ) (x y z : ℤ) (numbers : List ℤ) (places 
     → CalledBoth (nodeCall o r x y z) numbers places m t v → CalledBoth (nodeCall o r x y z) numbers places n u w → (m ≡ n) × (t ≡ u) × (v ≡ w)
 hb-node-determined o r x y z = called-both-once (nodeCall o r x y z)
 
-pub hb-child-determined : (motif flip : ℕ) (a b : Float) (d r o : ℕ) (numbers : List ℤ) (places : List Float) (m n : ℕ) (t u : List ℤ) (v w : List Float)
+pub hb-child-determined : (motif flip : ℤ) (a b : Float) (d r o : ℕ) (numbers : List ℤ) (places : List Float) (m n : ℕ) (t u : List ℤ) (v w : List Float)
     → CalledBoth (stepCall motif flip a b d r o) numbers places m t v → CalledBoth (stepCall motif flip a b d r o) numbers places n u w → (m ≡ n) × (t ≡ u) × (v ≡ w)
 hb-child-determined motif flip a b d r o = called-both-once (stepCall motif flip a b d r o)
 

@@ -1,14 +1,19 @@
 -- Calls by computation: what is written, what is left as it was, and the order of the refusals.
 use mathlib.Core.Path.{_≡_, refl}
 use mathlib.Core.List.{[], _∷_}
-use Prim.Native.Nat.{_^_}
+use Prim.Native.Nat.{_+_, _^_}
 use lib.IntN.{pos, negsuc}
+use lib.Ieee.{nan}
 use Rattle.triple.specs.Refusals.{numberOf}
 use Rattle.turtle.specs.Plane.{far}
 use Rattle.turtle.specs.Corners.{cornerSum, candidate, has, tripleOf}
 use Rattle.code.specs.Codes.{bitsOf, valueOf, bytesOf, codeLength, codeBits, codeBytes}
+use Rattle.grammar.specs.Texts.{rowsOf, fieldsOf, shaped}
+use Rattle.grammar.specs.Tests.{badShape, textTests}
+use Rattle.tables.specs.Verdicts.{verdict}
+use Rattle.nodes.specs.Nodes.{goodNode, childOf}
 use Rattle.capi.specs.Lent.{statusOf, afterCall, firstOf, secondOf}
-use Rattle.capi.specs.Calls.{tripleCall, writeCall}
+use Rattle.capi.specs.Calls.{tripleCall, stepCall, writeCall, compileCall, compileStatus}
 
 -- the corner sum (20, -16) into four places and into two; (14, -4), refused before the room is looked at
 pub triple-examples :
@@ -31,3 +36,20 @@ pub write-examples :
     × (statusOf (firstOf (writeCall 5 30 (4 ^ 30)) []) [] ≡ 3)
 unfolding numberOf bitsOf valueOf bytesOf codeLength codeBits codeBytes writeCall statusOf afterCall firstOf secondOf
 write-examples = (refl, refl, refl, refl, refl, refl, refl)
+
+-- a child step of a motif or flip that is negative, refused after the resolution and the orientation and before the digit; of one that is too large the same
+pub step-examples :
+    (statusOf (firstOf (stepCall (negsuc 0) (pos 0) nan nan 4 0 6) []) [] ≡ 1)
+    × (statusOf (firstOf (stepCall (negsuc 0) (pos 0) nan nan 4 1 6) []) [] ≡ 2)
+    × (statusOf (firstOf (stepCall (negsuc 0) (pos 0) nan nan 4 1 5) []) [] ≡ 7)
+    × (statusOf (firstOf (stepCall (pos 0) (negsuc 0) nan nan 4 1 5) []) [] ≡ 7)
+    × (statusOf (firstOf (stepCall (pos 14) (pos 0) nan nan 4 1 5) []) [] ≡ 7)
+unfolding numberOf goodNode childOf stepCall statusOf firstOf
+step-examples = (refl, refl, refl, refl, refl)
+
+-- the empty text: 12, line 0; `A` alone, ended by LF: 12, line 1
+pub compile-examples :
+    (compileStatus [] [] [] ≡ 12)
+    × (compileStatus (65 ∷ 10 ∷ []) [] [] ≡ 256 + 12)
+unfolding rowsOf fieldsOf shaped badShape textTests verdict statusOf firstOf compileCall compileStatus
+compile-examples = (refl, refl)

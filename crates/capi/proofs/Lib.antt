@@ -1,7 +1,9 @@
 pub mod LentLaws
 pub mod SignedLaws
+pub mod GivenLaws
 pub mod WriteLaws
 pub mod LineLaws
+pub mod FaultLaws
+pub mod CompileLaws
 pub mod Determined
 pub mod Examples
-pub mod CompileLaws

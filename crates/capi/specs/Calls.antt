@@ -1,14 +1,15 @@
 -- Each call's values, in the order in which it writes them.
 use mathlib.Core.Path.{_≡_}
+use mathlib.Core.Bool.{_||_}
 use mathlib.Core.List.{List, [], _∷_}
-use Prim.Native.Nat.{ℕ, _*_, _^_}
-use lib.Dec.{leb, ltb}
-use lib.IntN.{ℤ, pos}
+use Prim.Native.Nat.{ℕ, _+_, _*_, _^_}
+use lib.Dec.{leb, ltb, eqb}
+use lib.IntN.{ℤ, pos, negsuc}
 use lib.ListN.{length}
 use lib.Ieee.{Float}
 use Rattle.triple.specs.declared.Triple.{Triple}
 use Rattle.triple.specs.declared.refusal.Refusal.the-variants as Is
-use Rattle.triple.specs.Refusals.{Told, told, refused, refuse}
+use Rattle.triple.specs.Refusals.{Told, told, refused, numberOf, refuse, _>>=_}
 use Rattle.turtle.specs.declared.AB.{AB}
 use Rattle.turtle.specs.Corners.{cornerSumOf, tripleOf}
 use Rattle.lsystem.specs.declared.Named.{Named}
@@ -76,8 +77,19 @@ positionCall o r x y z = valued positionValues (positionOf o r (record { x = x; 
 abbrev pub nodeCall : ℕ → ℕ → ℤ → ℤ → ℤ → Told (List ℤ × List Float)
 nodeCall o r x y z = valued (λ (p : Reached). nodeValues (p .node)) (nodeOf o r (record { x = x; y = y; z = z }))
 
-abbrev pub stepCall : ℕ → ℕ → Float → Float → ℕ → ℕ → ℕ → Told (List ℤ × List Float)
-stepCall m f a b d r o = valued stepValues (childOf o r (record { motif = m; flip = f; «pos_a» = a; «pos_b» = b }) d)
+-- the node of the numbers that a call is given: a negative motif or flip is no node's
+abbrev pub nodeGiven : ℤ → ℤ → Float → Float → Told Node
+nodeGiven (pos m) (pos f) a b = told (record { motif = m; flip = f; «pos_a» = a; «pos_b» = b })
+nodeGiven (pos m) (negsuc f) a b = refused (numberOf Is.Node)
+nodeGiven (negsuc m) f a b = refused (numberOf Is.Node)
+
+unfoldable pub stepCall : ℤ → ℤ → Float → Float → ℕ → ℕ → ℕ → Told (List ℤ × List Float)
+stepCall m f a b d r o =
+    refuse (eqb r 0 || ltb 30 r) Is.Resolution
+    (refuse (ltb 5 o) Is.Orientation
+    (do
+      n ← nodeGiven m f a b
+      valued stepValues (childOf o r n d)))
 
 abbrev pub pointCall : Float → Float → ℕ → Told (List ℤ)
 pointCall i j r = valued tripleValues (pointOf r i j)
@@ -106,7 +118,7 @@ writeCall o r s =
 abbrev pub lineCall : List ℕ → Told (List ℕ × List ℕ)
 lineCall line = told (answerLine line, countValues (length (answerLine line)))
 
--- a text's table, and its number of states; the line at fault has a place of its own
+-- a text's table, and its number of states
 abbrev pub compileBy : Verdict → List ℤ × List ℕ → Told (List ℤ × List ℕ)
 compileBy fine values = told values
 compileBy (fault n line) values = refused n
@@ -114,11 +126,16 @@ compileBy (fault n line) values = refused n
 unfoldable pub compileCall : List ℕ → Told (List ℤ × List ℕ)
 compileCall text = compileBy (verdict text) (tableFor text, countValues (2 * length (tokenBytes (linesOf text))))
 
-abbrev pub lineOr : Verdict → Told (List ℕ) → Told (List ℕ)
-lineOr fine call = call
-lineOr (fault n line) call = told (countValues line)
+-- the number of the line at fault, from 1; 0 where no line is
+abbrev pub faultLine : Verdict → ℕ
+faultLine fine = 0
+faultLine (fault n line) = line
+
+-- the status, with the line at fault in a second byte
+unfoldable pub compileStatus : List ℕ → List ℤ → List ℕ → ℕ
+compileStatus text table out = 256 * faultLine (verdict text) + statusOf (firstOf (compileCall text) out) table
 
 -- the status, the table and the other slice afterwards are the compiler's
 abbrev pub CompileCalled : List ℕ → List ℤ → List ℕ → ℕ → List ℤ → List ℕ → Type 0
 CompileCalled text table out n x y =
-    (n ≡ statusOf (firstOf (compileCall text) out) table) × (x ≡ afterCall (firstOf (compileCall text) out) table) × (y ≡ afterCall (lineOr (verdict text) (secondOf (compileCall text) table)) out)
+    (n ≡ compileStatus text table out) × (x ≡ afterCall (firstOf (compileCall text) out) table) × (y ≡ afterCall (secondOf (compileCall text) table) out)

@@ -7,11 +7,12 @@
 // is refusal 10, tested last. A slice passes as a pointer and then a length.
 ghost use mathlib.Core.Path.{_≡_};
 ghost use mathlib.Core.Bool.{cond};
-ghost use Prim.Native.Nat.{_≤_};
+ghost use Prim.Native.Nat.{_+_, _*_, _<_, _≤_};
 ghost use lib.Dec.{ltb};
 ghost use Rattle.capi.specs.Lent.{statusOf, afterCall, firstOf, secondOf};
-ghost use Rattle.capi.specs.Calls.{cellCall, positionCall, nodeCall, stepCall, pointCall, cornerCall, tripleCall, readCall, writeCall, lineCall, descendCall, compileCall, lineOr};
-ghost use Rattle.tables.specs.Verdicts.{verdict};
+ghost use Rattle.capi.specs.Calls.{cellCall, positionCall, nodeCall, stepCall, pointCall, cornerCall, tripleCall, readCall, writeCall, lineCall, descendCall, compileCall, compileStatus};
+ghost use Rattle.capi.specs.Inside.Given.{clipped, nodeClipped};
+ghost use Rattle.triple.specs.Refusals.{numberOf};
 use code::ReadAnswer;
 use code::WriteAnswer;
 use curve::PointAnswer;
@@ -33,6 +34,7 @@ use put::put_triple;
 use query::print::PrintAnswer;
 use tables::compiler::CompileAnswer;
 use triple::Triple;
+use triple::refusal::Refusal;
 use turtle::AB;
 use turtle::corner::CornerAnswer;
 use turtle::corner::TripleAnswer;
@@ -94,8 +96,8 @@ pub extern "C" fn hb_node(
 // below the child to `places`.
 #[no_mangle]
 pub extern "C" fn hb_child(
-    motif: u64,
-    flip: u8,
+    motif: i32,
+    flip: i32,
     a: f64,
     b: f64,
     digit: u8,
@@ -106,17 +108,35 @@ pub extern "C" fn hb_child(
 ) -> u8
     ensures { λ n. ⌜ (n ≡ statusOf (firstOf (stepCall motif flip a b digit resolution orientation) (now (places .entry))) (now (numbers .entry))) × (now (numbers .exit) ≡ afterCall (firstOf (stepCall motif flip a b digit resolution orientation) (now (places .entry))) (now (numbers .entry))) × (now (places .exit) ≡ afterCall (secondOf (stepCall motif flip a b digit resolution orientation) (now (numbers .entry))) (now (places .entry))) ⌝ }
 {
-    let node = Node {
-        motif,
-        flip,
-        pos_a: a,
-        pos_b: b,
-    };
-    let answer = node.child(digit, resolution, orientation);
+    let answer = node_given(motif, flip, a, b).child(digit, resolution, orientation);
     match answer {
         ChildAnswer::Child(c) => put_step(c, numbers, places),
         ChildAnswer::Refused(e) => e.number(),
     }
+}
+
+// The node of the numbers that a caller hands over. A motif or flip that no good node has need not fit
+// a node's field: one more than the greatest stands for it, and is refused as it would be.
+fn node_given(motif: i32, flip: i32, a: f64, b: f64) -> Node
+    ensures { λ n. ⌜ n ≡ nodeClipped motif flip a b ⌝ }
+{
+    let m = clipped(motif, Node::GREATEST_MOTIF as u8);
+    let f = clipped(flip, Node::GREATEST_FLIP);
+    Node::new(m as u64, f, a, b)
+}
+
+// A number from 0 to the greatest; one more than the greatest for every other.
+fn clipped(number: i32, greatest: u8) -> u8
+    requires { ⌜ greatest < 255 ⌝ }
+    ensures { λ n. ⌜ n ≡ clipped greatest number ⌝ }
+{
+    if number < 0 {
+        return greatest + 1;
+    }
+    if number > greatest as i32 {
+        return greatest + 1;
+    }
+    number as u8
 }
 
 // The triple of the cell that a point falls in: x y z.
@@ -232,19 +252,24 @@ pub extern "C" fn hb_descend(
 }
 
 // Compiles a grammar's text: its table at the front of `table`, and the number of states to `out`. Of a
-// text that is refused, from 12 to 20, `out` has the line at fault.
+// text that is refused, the status has the line at fault in its high byte.
 #[no_mangle]
-pub extern "C" fn hb_compile(text: &[u8], table: &mut [i32], out: &mut [u64]) -> u8
-    ensures { λ n. ⌜ (n ≡ statusOf (firstOf (compileCall (now (text .entry))) (now (out .entry))) (now (table .entry))) × (now (table .exit) ≡ afterCall (firstOf (compileCall (now (text .entry))) (now (out .entry))) (now (table .entry))) × (now (out .exit) ≡ afterCall (lineOr (verdict (now (text .entry))) (secondOf (compileCall (now (text .entry))) (now (table .entry)))) (now (out .entry))) ⌝ }
+pub extern "C" fn hb_compile(text: &[u8], table: &mut [i32], out: &mut [u64]) -> u16
+    ensures { λ n. ⌜ (n ≡ compileStatus (now (text .entry)) (now (table .entry)) (now (out .entry))) × (now (table .exit) ≡ afterCall (firstOf (compileCall (now (text .entry))) (now (out .entry))) (now (table .entry))) × (now (out .exit) ≡ afterCall (secondOf (compileCall (now (text .entry))) (now (table .entry))) (now (out .entry))) ⌝ }
 {
     let room = lendable(table.len(), out.len());
     let answer = tables::compiler::compile_grammar(text, &mut table[..room]);
     match answer {
-        CompileAnswer::States(count) => put_count(count, out),
-        CompileAnswer::Fault(e, line) => {
-            put_count(line, out);
-            e.number()
-        }
-        CompileAnswer::Refused(e) => e.number(),
+        CompileAnswer::States(count) => put_count(count, out) as u16,
+        CompileAnswer::Fault(e, line) => status_at(e, line),
+        CompileAnswer::Refused(e) => e.number() as u16,
     }
+}
+
+// A refusal's number in the low byte, the line at fault in the high byte.
+fn status_at(e: Refusal, line: usize) -> u16
+    requires { ⌜ line ≤ 9 ⌝ }
+    ensures { λ n. ⌜ n ≡ 256 * line + numberOf e ⌝ }
+{
+    256 * line as u16 + e.number() as u16
 }

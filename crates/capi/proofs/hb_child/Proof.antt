@@ -1,12 +1,16 @@
--- `hb_child`: the child's values and its node's positions are written, or the refusal's number is answered.
+-- `hb_child`: the child's values and its node's positions are written, or the refusal's number is answered; the node is that of the numbers given.
 use mathlib.Core.Path.{sym, ap, _∙_}
 use borrow.Author.Needs.{needs}
 use Rattle.nodes.specs.NodeAnswers.{saidChild}
 use Rattle.nodes.proofs.NodeMotifs.{child-motif}
 use Rattle.capi.specs.Calls.{stepValues}
 use Rattle.capi.proofs.LentLaws.{both-told, both-refused}
+use Rattle.capi.proofs.GivenLaws.{step-called}
 use Rattle.capi.proofs.hb_child.Statement.{statement}
 use Rattle.capi.proofs.hb_child.Tie as tie
+
+node-given-requires : tie.Need-node-given-requires
+node-given-requires c κs = search needs
 
 child-requires : tie.Need-child-requires
 child-requires c κs = search needs
@@ -35,17 +39,18 @@ returns : tie.Need-returns
 returns c =
     let p = c .before .before .before in
     let a = p .before .before .before .before in
-    both-told stepValues _ _ (a .before .before .child .ensures) (ap saidChild (a .answer .given .1)) (p .put-step .ensures)
+    step-called (search needs) (a .before .before .before .node-given .ensures) _ _ _ _ _ (both-told stepValues _ _ (a .before .before .child .ensures) (ap saidChild (a .answer .given .1)) (p .put-step .ensures))
 
 returns-2 : tie.Need-returns-2
 returns-2 c =
     let a = c .before .before in
-    both-refused stepValues _ _ (a .before .before .child .ensures) (ap saidChild (a .answer2 .given .1)) (c .number .ensures)
+    step-called (search needs) (a .before .before .before .node-given .ensures) _ _ _ _ _ (both-refused stepValues _ _ (a .before .before .child .ensures) (ap saidChild (a .answer2 .given .1)) (c .number .ensures))
 
 pub hb-child-spec : {M : Type 1} → statement M
 hb-child-spec =
     tie.close
     (tie.spec
+    node-given-requires
     child-requires
     enum-known-answer
     put-step-requires

@@ -1,9 +1,9 @@
--- `hb_compile`: the compiler is lent all of the table or, where the number has no place, none; so both slices are written or none is.
-use Rattle.capi.proofs.CompileLaws.{compile-states, compile-faulty, compile-refused}
-use Rattle.tables.specs.Compiler.{saidCompiled}
-use lib.Seq.{length-take-le}
+-- `hb_compile`: the compiler is lent all of the table or, where the number has no place, none; so both slices are written or none is. A line at fault goes into the status.
 use mathlib.Core.Path.{_∙_, sym, ap}
+use lib.Seq.{length-take-le}
 use borrow.Author.Needs.{needs}
+use Rattle.tables.specs.Compiler.{saidCompiled}
+use Rattle.capi.proofs.CompileLaws.{compile-states, compile-faulty, compile-refused, line-small}
 use Rattle.capi.proofs.hb_compile.Statement.{statement}
 use Rattle.capi.proofs.hb_compile.Tie as tie
 
@@ -25,20 +25,25 @@ enum-known-answer c = search needs
 put-count-requires : tie.Need-put-count-requires
 put-count-requires c κs = search needs
 
+cast-result : tie.Need-cast-result
+cast-result c = search needs
+
 enum-known-answer-2 : tie.Need-enum-known-answer-2
 enum-known-answer-2 c = search needs
 
-put-count-requires-2 : tie.Need-put-count-requires-2
-put-count-requires-2 c κs = search needs
-
-number-requires : tie.Need-number-requires
-number-requires c κs = search needs
+status-at-requires : tie.Need-status-at-requires
+status-at-requires c κs =
+    let a = c .before in
+    line-small _ _ (sym (ap saidCompiled (a .answer2 .given .1)) ∙ a .before .before .before .compile-grammar .ensures .0)
 
 enum-known-answer-3 : tie.Need-enum-known-answer-3
 enum-known-answer-3 c = search needs
 
-number-requires-2 : tie.Need-number-requires-2
-number-requires-2 c κs = search needs
+number-requires : tie.Need-number-requires
+number-requires c κs = search needs
+
+cast-result-2 : tie.Need-cast-result-2
+cast-result-2 c = search needs
 
 same-length : tie.Need-same-length
 same-length c = search needs
@@ -49,34 +54,33 @@ same-length-2 c = search needs
 returns : tie.Need-returns
 returns c =
     let p = c .before .before in
-    let w = c .before .before .before .before .before .before .before .before in
+    let a = p .before .before .before in
+    let w = a .before .before .before in
     let l = w .before .before .lendable .ensures in
-    let start = c .before .before .before .before .before .before .before .before .before .before .before .before .before in
-    compile-states (start .args .text .now) (start .args .table .now) (start .args .out .now) (l .0) (l .1) (w .compile-grammar .ensures .1) (sym (ap saidCompiled (c .before .before .before .before .before .answer .given .1)) ∙ w .compile-grammar .ensures .0) (p .put-count .ensures)
+    let start = w .before .before .before .before .before in
+    compile-states (start .args .text .now) (start .args .table .now) (start .args .out .now) (l .0) (l .1) (w .compile-grammar .ensures .1) (sym (ap saidCompiled (a .answer .given .1)) ∙ w .compile-grammar .ensures .0) (p .put-count .ensures)
 
 same-length-3 : tie.Need-same-length-3
 same-length-3 c = search needs
 
+returns-2 : tie.Need-returns-2
+returns-2 c =
+    let a = c .before .before in
+    let w = a .before .before .before in
+    let l = w .before .before .lendable .ensures in
+    let start = w .before .before .before .before .before in
+    compile-faulty (start .args .text .now) (start .args .table .now) (start .args .out .now) (l .0) (l .1) (w .compile-grammar .ensures .1) (sym (ap saidCompiled (a .answer2 .given .1)) ∙ w .compile-grammar .ensures .0) (c .status-at .ensures)
+
 same-length-4 : tie.Need-same-length-4
 same-length-4 c = search needs
 
-returns-2 : tie.Need-returns-2
-returns-2 c =
-    let p = c .before .before .before in
-    let w = c .before .before .before .before .before .before .before .before .before in
-    let l = w .before .before .lendable .ensures in
-    let start = c .before .before .before .before .before .before .before .before .before .before .before .before .before .before in
-    compile-faulty (start .args .text .now) (start .args .table .now) (start .args .out .now) (l .0) (l .1) (w .compile-grammar .ensures .1) (sym (ap saidCompiled (c .before .before .before .before .before .before .answer2 .given .1)) ∙ w .compile-grammar .ensures .0) (c .number .ensures) (p .put-count2 .ensures)
-
-same-length-5 : tie.Need-same-length-5
-same-length-5 c = search needs
-
 returns-3 : tie.Need-returns-3
 returns-3 c =
-    let w = c .before .before .before .before .before in
+    let a = c .before .before in
+    let w = a .before .before .before in
     let l = w .before .before .lendable .ensures in
-    let start = c .before .before .before .before .before .before .before .before .before .before in
-    compile-refused (start .args .text .now) (start .args .table .now) (start .args .out .now) (l .0) (l .1) (w .compile-grammar .ensures .1) (sym (ap saidCompiled (c .before .before .answer3 .given .1)) ∙ w .compile-grammar .ensures .0) (c .number2 .ensures)
+    let start = w .before .before .before .before .before in
+    compile-refused (start .args .text .now) (start .args .table .now) (start .args .out .now) (l .0) (l .1) (w .compile-grammar .ensures .1) (sym (ap saidCompiled (a .answer3 .given .1)) ∙ w .compile-grammar .ensures .0) (c .number .ensures)
 
 pub hb-compile-spec : {M : Type 1} → statement M
 hb-compile-spec =
@@ -88,16 +92,16 @@ hb-compile-spec =
     compile-grammar-requires
     enum-known-answer
     put-count-requires
+    cast-result
     enum-known-answer-2
-    put-count-requires-2
-    number-requires
+    status-at-requires
     enum-known-answer-3
-    number-requires-2
+    number-requires
+    cast-result-2
     same-length
     same-length-2
     returns
     same-length-3
-    same-length-4
     returns-2
-    same-length-5
+    same-length-4
     returns-3)

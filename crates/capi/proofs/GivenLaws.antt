@@ -1,0 +1,158 @@
+-- A node of numbers that a caller hands over: what does not fit a node's field is refused as it would be.
+use mathlib.Core.Path.{_≡_, refl, sym, _∙_}
+use mathlib.Core.Bool.{Bool, true, false, _||_}
+use mathlib.Core.List.{List, [], _∷_}
+use mathlib.Core.Logic.{_⊎_, inl, inr}
+use Prim.Native.Nat.{ℕ, _+_, _<_}
+use native.Mathlib.Omega.{arith}
+use borrow.Author.Tests.{ltb-true, ltb-false}
+use lib.Dec.{T, eqb, ltb}
+use lib.IntN.{ℤ, pos, negsuc, natAbs}
+use lib.Ieee.{Float}
+use lib.Signed.{ltZ, nonNeg}
+use mir.Syntax.{w8, w32}
+use mir.Val.{Fits, SFits, toZ, ofZ}
+use mir.ValLaws.{toZ-ofZ}
+use Rattle.triple.specs.declared.refusal.Refusal.the-variants as Is
+use Rattle.triple.specs.Refusals.{Told, refused, numberOf, refuse}
+use Rattle.nodes.specs.declared.Node.{Node}
+use Rattle.nodes.specs.declared.ChildStep.{ChildStep}
+use Rattle.nodes.specs.Nodes.{goodNode, childOf}
+use Rattle.nodes.proofs.NodeLaws.{motif-high, flip-high}
+use Rattle.capi.specs.Lent.{valued}
+use Rattle.capi.specs.Calls.{stepValues, stepCall}
+use Rattle.capi.specs.Inside.Given.{clipped, nodeClipped}
+use Rattle.capi.proofs.LentLaws.{CalledBoth}
+use Rattle.capi.proofs.SignedLaws.{Fitting}
+
+-- ---- a number clipped, by the tests that the code makes
+module _ (greatest : ℕ) where
+  negative : (z : ℤ) → ltZ z (pos 0) ≡ true → greatest + 1 ≡ clipped greatest z
+  unfolding clipped
+  negative (pos n) e = absurd (omega (arith, ltb-true n 0 e))
+  negative (negsuc n) e = omega arith
+
+  above : (z : ℤ) → ltZ (pos greatest) z ≡ true → greatest + 1 ≡ clipped greatest z
+  unfolding clipped
+  above (pos n) e = rw e (omega arith)
+  above (negsuc n) e = omega arith
+
+  within : (z : ℤ) → ltZ z (pos 0) ≡ false → ltZ (pos greatest) z ≡ false → natAbs z ≡ clipped greatest z
+  unfolding clipped
+  within (pos n) h e = rw e
+  within (negsuc n) h e = let z : _≡_ {A = ℕ} 0 1 = cc in absurd (omega arith)
+
+  small : greatest < 255 → (z : ℤ) → ltZ z (pos 0) ≡ false → ltZ (pos greatest) z ≡ false → T (nonNeg z) × Fits w8 (natAbs z)
+  small g (pos n) h e = (tt, omega (arith, ltb-false greatest n e))
+  small g (negsuc n) h e = let z : _≡_ {A = ℕ} 0 1 = cc in absurd (omega arith)
+
+  -- both are held as they are read back from their bits
+  module _ (number : ℤ) (fits : SFits w32 number) where
+    is : toZ w32 (ofZ w32 number) ≡ number
+    is = toZ-ofZ w32 number fits
+
+    pub clip-negative : ltZ (toZ w32 (ofZ w32 number)) (pos 0) ≡ true → greatest + 1 ≡ clipped greatest number
+    clip-negative e = negative number (rw is at e)
+
+    module _ (short : greatest < 255) where
+      limit : toZ w32 (ofZ w32 (pos greatest)) ≡ pos greatest
+      limit = toZ-ofZ w32 (pos greatest) (omega arith)
+
+      pub clip-above : ltZ (toZ w32 (ofZ w32 (pos greatest))) (toZ w32 (ofZ w32 number)) ≡ true → greatest + 1 ≡ clipped greatest number
+      clip-above e = above number (rw (limit, is) at e)
+
+      module _ (h : ltZ (toZ w32 (ofZ w32 number)) (pos 0) ≡ false) (e : ltZ (toZ w32 (ofZ w32 (pos greatest))) (toZ w32 (ofZ w32 number)) ≡ false) where
+        pub clip-within : natAbs (toZ w32 (ofZ w32 number)) ≡ clipped greatest number
+        clip-within = rw is (within number (rw is at h) (rw (limit, is) at e))
+
+        pub clip-fits : T (nonNeg (toZ w32 (ofZ w32 number))) × Fits w8 (natAbs (toZ w32 (ofZ w32 number)))
+        clip-fits = rw is (small short number (rw is at h) (rw (limit, is) at e))
+
+-- ---- a step from a clipped node
+abbrev first : {A : Type 0} → ℕ → ℕ → Told A → Told A
+first o r t = refuse (eqb r 0 || ltb 30 r) Is.Resolution (refuse (ltb 5 o) Is.Orientation t)
+
+module _ (o r : ℕ) (n : Node) (d : ℕ) where
+  -- a step makes the first two tests itself
+  first-again : valued stepValues (childOf o r n d) ≡ first o r (valued stepValues (childOf o r n d))
+  unfolding childOf
+  first-again = go (eqb r 0 || ltb 30 r) (ltb 5 o) _
+    where
+      go : (w x : Bool) (t : Told ChildStep)
+          → valued stepValues (refuse w Is.Resolution (refuse x Is.Orientation t)) ≡ refuse w Is.Resolution (refuse x Is.Orientation (valued stepValues (refuse w Is.Resolution (refuse x Is.Orientation t))))
+      go true x t = refl
+      go false true t = refl
+      go false false t = refl
+
+  bad-step : false ≡ goodNode n → valued stepValues (childOf o r n d) ≡ first o r (refused (numberOf Is.Node))
+  unfolding childOf
+  bad-step e = rw (sym e) (go (eqb r 0 || ltb 30 r) (ltb 5 o))
+    where
+      go : (w x : Bool) → valued stepValues (refuse w Is.Resolution (refuse x Is.Orientation (refused (numberOf Is.Node)))) ≡ refuse w Is.Resolution (refuse x Is.Orientation (refused (numberOf Is.Node)))
+      go true x = refl
+      go false true = refl
+      go false false = refl
+
+-- ---- the node that is given, and the one that the code makes of it
+clipped-high : (greatest n : ℕ) → ltb greatest n ≡ true → greatest < clipped greatest (pos n)
+unfolding clipped
+clipped-high greatest n e = rw e (omega arith)
+
+clipped-same : (greatest n : ℕ) → ltb greatest n ≡ false → clipped greatest (pos n) ≡ n
+unfolding clipped
+clipped-same greatest n e = rw e
+
+clipped-negative : (greatest n : ℕ) → greatest < clipped greatest (negsuc n)
+unfolding clipped
+clipped-negative greatest n = omega arith
+
+-- a motif or a flip that is too large
+high : (n : Node) → (13 < n .motif) ⊎ (1 < n .flip) → false ≡ goodNode n
+high n (inl h) = motif-high n h
+high n (inr h) = go (ltb 13 (n .motif)) refl
+  where
+    go : (b : Bool) → ltb 13 (n .motif) ≡ b → false ≡ goodNode n
+    go true e = motif-high n (ltb-true 13 (n .motif) e)
+    go false e = flip-high n (ltb-false 13 (n .motif) e) h
+
+module _ (a b : Float) (d r o : ℕ) where
+  abbrev node : ℕ → ℕ → Node
+  node m f = record { motif = m; flip = f; «pos_a» = a; «pos_b» = b }
+
+  same-step : (m f : ℕ) → ltb 13 m ≡ false → ltb 1 f ≡ false → valued stepValues (childOf o r (nodeClipped (pos m) (pos f) a b) d) ≡ stepCall (pos m) (pos f) a b d r o
+  unfolding stepCall
+  same-step m f h k = rw (clipped-same 13 m h, clipped-same 1 f k) (first-again o r (node m f) d)
+
+  -- of two that are not negative, one is too large
+  high-step : (m f : ℕ) → (13 < m) ⊎ (1 < f) → (13 < clipped 13 (pos m)) ⊎ (1 < clipped 1 (pos f)) → valued stepValues (childOf o r (nodeClipped (pos m) (pos f) a b) d) ≡ stepCall (pos m) (pos f) a b d r o
+  unfolding stepCall
+  high-step m f h k =
+      bad-step o r (nodeClipped (pos m) (pos f) a b) d (high _ k)
+      ∙ sym (bad-step o r (node m f) d (high _ h))
+      ∙ first-again o r (node m f) d
+
+  pub step-given : (m f : ℤ) → valued stepValues (childOf o r (nodeClipped m f a b) d) ≡ stepCall m f a b d r o
+  unfolding stepCall
+  step-given (negsuc m) f = bad-step o r (nodeClipped (negsuc m) f a b) d (high _ (inl (clipped-negative 13 m)))
+  step-given (pos m) (negsuc f) = bad-step o r (nodeClipped (pos m) (negsuc f) a b) d (high _ (inr (clipped-negative 1 f)))
+  step-given (pos m) (pos f) = go (ltb 13 m) (ltb 1 f) refl refl
+    where
+      go : (s t : Bool) → ltb 13 m ≡ s → ltb 1 f ≡ t → valued stepValues (childOf o r (nodeClipped (pos m) (pos f) a b) d) ≡ stepCall (pos m) (pos f) a b d r o
+      go true t h k = high-step m f (inl (ltb-true 13 m h)) (inl (clipped-high 13 m h))
+      go false true h k = high-step m f (inr (ltb-true 1 f k)) (inr (clipped-high 1 f k))
+      go false false h k = same-step m f h k
+
+-- ---- the same of numbers that are held as they are read back from their bits
+module _ {x y : ℤ} (fits : Fitting w32 (x ∷ y ∷ [])) where
+  abbrev made : Float → Float → Node
+  made a b = nodeClipped (toZ w32 (ofZ w32 x)) (toZ w32 (ofZ w32 y)) a b
+
+  made-is : (a b : Float) → made a b ≡ nodeClipped x y a b
+  made-is a b = rw (toZ-ofZ w32 x (fits .0), toZ-ofZ w32 y (fits .1 .0))
+
+  pub node-made : {a b : Float} {m f : ℕ} → m ≡ clipped 13 (toZ w32 (ofZ w32 x)) → f ≡ clipped 1 (toZ w32 (ofZ w32 y)) → {n : Node} → n ≡ record { motif = m; flip = f; «pos_a» = a; «pos_b» = b } → n ≡ nodeClipped x y a b
+  node-made {a} {b} h k e = (rw (h, k) at e) ∙ made-is a b
+
+  module _ {a b : Float} {n : Node} (is-made : n ≡ made a b) (d r o : ℕ) (numbers : List ℤ) (places : List Float) {k : ℕ} {after : List ℤ} {placed : List Float} where
+    pub step-called : CalledBoth (valued stepValues (childOf o r n d)) numbers places k after placed → CalledBoth (stepCall x y a b d r o) numbers places k after placed
+    step-called p = rw (is-made ∙ made-is a b, step-given a b d r o x y) at p
