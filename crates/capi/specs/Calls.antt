@@ -83,6 +83,7 @@ nodeGiven (pos m) (pos f) a b = told (record { motif = m; flip = f; «pos_a» = 
 nodeGiven (pos m) (negsuc f) a b = refused (numberOf Is.Node)
 nodeGiven (negsuc m) f a b = refused (numberOf Is.Node)
 
+-- 1 and 2 are tested before the node is looked at, as in the step itself
 unfoldable pub stepCall : ℤ → ℤ → Float → Float → ℕ → ℕ → ℕ → Told (List ℤ × List Float)
 stepCall m f a b d r o =
     refuse (eqb r 0 || ltb 30 r) Is.Resolution
@@ -131,7 +132,7 @@ abbrev pub faultLine : Verdict → ℕ
 faultLine fine = 0
 faultLine (fault n line) = line
 
--- the status, with the line at fault in a second byte
+-- the status: the refusal's number in the low byte, the line at fault in the high byte; 0 where the text is compiled
 unfoldable pub compileStatus : List ℕ → List ℤ → List ℕ → ℕ
 compileStatus text table out = 256 * faultLine (verdict text) + statusOf (firstOf (compileCall text) out) table
 
