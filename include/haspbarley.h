@@ -11,8 +11,9 @@
  * any state: calls may be made from any thread. Of the C library only memcpy and memset are used.
  *
  * hb_point and hb_line compute in double and need the default floating-point environment: rounding to
- * nearest, no flush to zero, no trap. In another rounding mode a point can fall into another cell. The
- * other functions compute in whole numbers, and what is double there is exact in every mode.
+ * nearest, no flush to zero. In another rounding mode a point can fall into another cell. The other
+ * functions compute in whole numbers, and what is double there is exact in every mode. A call may raise
+ * floating-point flags, and none may be set to trap.
  *
  * A call takes at most 16 KB of stack for hb_compile, 2 KB for hb_line, and 512 bytes for any other.
  *

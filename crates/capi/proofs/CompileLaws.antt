@@ -23,7 +23,7 @@ use Rattle.tables.specs.Compiler as Compiler
 use Rattle.tables.specs.Verdicts.{verdict}
 use Rattle.tables.proofs.Entries.{length-table}
 use Rattle.tables.proofs.CompileLaws.{when-states, when-refused, when-faulty, some-tokens}
-use Rattle.capi.specs.Lent.{Called, CalledBoth}
+use Rattle.capi.specs.Lent.{statusOf, Called, firstOf, CalledBoth}
 use Rattle.capi.specs.Calls.{countValues, compileBy, compileCall, faultLine, compileStatus, CompileCalled}
 use Rattle.capi.proofs.FaultLaws.{Few, verdict-few, fault-few}
 use Rattle.capi.proofs.LentLaws.{put-known, none-written, both-whole, first-short, second-short}

@@ -2,7 +2,8 @@
 use mathlib.Core.Path.{_≡_, refl, ap, _∙_}
 use mathlib.Core.Bool.{Bool, true, false, cond}
 use mathlib.Core.List.{List, _++_}
-use Prim.Native.Nat.{ℕ, _*_}
+use Prim.Native.Nat.{ℕ, _+_, _*_}
+use native.Mathlib.Nat.{zero-add}
 use lib.Dec.{ltb}
 use lib.IntN.{ℤ}
 use lib.ListN.{length, drop}
@@ -18,7 +19,7 @@ use Rattle.tables.specs.Verdicts.{verdict}
 use Rattle.code.specs.Codes.{codeBytes, written, writeOf, afterWrite}
 use Rattle.query.specs.Prints.{printed, printOf, afterPrint}
 use Rattle.capi.specs.Lent.{statusOf, afterCall, Called, firstOf, secondOf, CalledBoth}
-use Rattle.capi.specs.Calls.{compileCall, CompileCalled}
+use Rattle.capi.specs.Calls.{countValues, compileBy, compileCall, faultLine, compileStatus, CompileCalled}
 use Rattle.demands.specs.Demands.{LentBuffers}
 use Rattle.demands.proofs.ToldLaws.{told-refused}
 
@@ -70,8 +71,19 @@ slices (told (values, others)) first x second y status c some = go (ltb (length 
     go false false ea eb = absurd (some (c .0 ∙ rw (eb, ea)))
 slices (refused n) first x second y status c some = (c .1, c .2)
 
-compiled : (text : List ℕ) (table x : List ℤ) (out y : List ℕ) (status : ℕ) → CompileCalled text table out status x y → (status ≡ 0 → ⊥) → x ≡ table
-compiled text table x out y status c = slice (firstOf (compileCall text) out) table x status (c .0, c .1)
+compiled : (text : List ℕ) (table x : List ℤ) (out y : List ℕ) (status : ℕ) → CompileCalled text table out status x y → (status ≡ 0 → ⊥) → (x ≡ table) × (y ≡ out)
+unfolding compileCall compileStatus afterCall firstOf secondOf
+compiled text table x out y status c some = by-verdict (verdict text) c
+  where
+    values : List ℤ × List ℕ
+    values = (tableFor text, countValues (2 * length (tokenBytes (linesOf text))))
+
+    by-verdict : (v : Verdict)
+        → (status ≡ 256 * faultLine v + statusOf (firstOf (compileBy v values) out) table) × (x ≡ afterCall (firstOf (compileBy v values) out) table)
+        × (y ≡ afterCall (secondOf (compileBy v values) table) out)
+        → (x ≡ table) × (y ≡ out)
+    by-verdict fine d = slices (told values) table x out y status (d .0 ∙ zero-add _, d .1, d .2) some
+    by-verdict (fault n line) d = (d .1, d .2)
 
 pub lent-buffers : LentBuffers
 lent-buffers = record { word = word; table = table; code = code; line = line; slice = slice; slices = slices; compiled = compiled }

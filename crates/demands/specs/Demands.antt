@@ -113,8 +113,8 @@ pub record LentBuffers : Type 1 where
   pub slice : {A : Type 0} (call : Told (List A)) (slice after : List A) (status : ℕ) → Called call slice status after → (status ≡ 0 → ⊥) → after ≡ slice
   -- both slices of one that has two
   pub slices : {A B : Type 0} (call : Told (List A × List B)) (first x : List A) (second y : List B) (status : ℕ) → CalledBoth call first second status x y → (status ≡ 0 → ⊥) → (x ≡ first) × (y ≡ second)
-  -- the table of the one that compiles, which writes the line at fault to its other slice
-  pub compiled : (text : List ℕ) (table x : List ℤ) (out y : List ℕ) (status : ℕ) → CompileCalled text table out status x y → (status ≡ 0 → ⊥) → x ≡ table
+  -- and both of the one that compiles, whose status has the line at fault too
+  pub compiled : (text : List ℕ) (table x : List ℤ) (out y : List ℕ) (status : ℕ) → CompileCalled text table out status x y → (status ≡ 0 → ⊥) → (x ≡ table) × (y ≡ out)
 
 -- ---- corner sums
 pub record CornerSums : Type 0 where
