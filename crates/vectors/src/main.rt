@@ -14,12 +14,10 @@
 //
 // A node's a and b are the 16 hex digits of an f64's bits. A text has `_` for a space and `/` for
 // LF, and its refusals are answered with the line at fault. What is answered is the crates'; how the
-// input is cut and the output gathered is `lines`'s.
-ghost use mathlib.Core.Path.{_≡_};
+// input is cut and the output gathered, and what is said where a read or a write fails, is `lines`'s.
 ghost use Prim.Native.Nat.{_+_, _≤_};
 ghost use lib.ListN.{length};
-use lines::Input;
-use lines::flush;
+use lines::Exchange;
 use query::line::word;
 
 mod ask;
@@ -47,52 +45,33 @@ fn answer(line: &[u8], out: &mut [u8]) -> usize
     }
 }
 
-// The answer to the line that is kept, and LF.
-fn finish(line: &[u8], kept: usize, out: &mut [u8], at: usize) -> usize
-    requires { ⌜ (kept ≤ length (now line)) × ((length (now out) ≡ 65536) × (at + 256 ≤ 65536)) ⌝ }
-    ensures { λ to. ⌜ to ≤ at + 256 ⌝ }
+// With the answer to a whole line, and LF.
+fn answered(mut exchange: Exchange, line: &[u8], out: &mut [u8]) -> Exchange
+    requires { ⌜ (exchange .kept ≤ length (now line)) × (exchange .gathered + 256 ≤ length (now out)) ⌝ }
 {
+    if !exchange.is_whole() {
+        return exchange;
+    }
+    let kept = exchange.kept;
+    let at = exchange.gathered;
     let to = at + answer(&line[..kept], &mut out[at..at + 255]);
     out[to] = 10;
-    to + 1
+    exchange.gathered = to + 1;
+    exchange
 }
 
-fn answered(input: Input, line: &[u8], out: &mut [u8], at: usize) -> usize
-    requires { ⌜ (input .kept ≤ length (now line)) × ((length (now out) ≡ 65536) × (at + 256 ≤ 65536)) ⌝ }
-    ensures { λ left. ⌜ left + 256 ≤ 65536 ⌝ }
-{
-    let kept = input.kept;
-    if input.whole {
-        let to = finish(line, kept, out, at);
-        return flush(out, to, 256);
-    }
-    at
-}
-
-// All of standard input; answers how much is left to be written. The loop counts down from a number
-// that no input uses up.
-fn run(piece: &mut [u8], line: &mut [u8], out: &mut [u8]) -> usize
-    requires { ⌜ length (now out) ≡ 65536 ⌝ }
-    ensures { λ left. ⌜ left ≤ 65536 ⌝ }
-{
-    let mut input = Input::new();
-    let mut at: usize = 0;
-    let mut turns = u64::MAX;
-    while turns > 0 {
-        turns -= 1;
-        input = input.next(piece, line);
-        at = answered(input, line, out, at);
-        if input.ended {
-            return at;
-        }
-    }
-    at
-}
-
+// All of standard input, or so much of it as can be read and answered. The loop counts down from a
+// number that no input uses up.
 fn main() {
     let mut piece = io::large_buffer();
-    let mut out = io::large_buffer();
     let mut line = io::buffer();
-    let left = run(&mut piece, &mut line, &mut out);
-    lines::write(&out, left);
+    let mut out = io::large_buffer();
+    let mut exchange = Exchange::new();
+    let mut turns = u64::MAX;
+    while turns > 0 {
+        exchange = exchange.next(&mut piece, &mut line, &out, 256);
+        exchange = answered(exchange, &line, &mut out);
+        turns = exchange.left(turns);
+    }
+    exchange.close(&out);
 }

@@ -1,23 +1,26 @@
 // The program: lines in, lines out. A query on each line of standard input, its answer on a line of
 // standard output, and nothing else. What a line asks and what is answered is `query`'s; how the input
-// is cut and the output gathered is `lines`'s.
-ghost use mathlib.Core.Path.{_≡_};
+// is cut and the output gathered, and what is said where a read or a write fails, is `lines`'s.
 ghost use Prim.Native.Nat.{_+_, _≤_};
 ghost use lib.ListN.{length};
-use lines::Input;
-use lines::flush;
+use lines::Exchange;
 use query::answer::answer_line;
 use query::print::PrintAnswer;
 
-// The answer to the line that is kept, and LF.
-fn finish(line: &[u8], kept: usize, out: &mut [u8], at: usize) -> usize
-    requires { ⌜ (length (now line) ≡ 65) × ((kept ≤ 65) × ((length (now out) ≡ 65536) × (at + 128 ≤ 65536))) ⌝ }
-    ensures { λ to. ⌜ to ≤ at + 128 ⌝ }
+// With the answer to a whole line, and LF.
+fn answered(mut exchange: Exchange, line: &[u8], out: &mut [u8]) -> Exchange
+    requires { ⌜ (exchange .kept ≤ length (now line)) × (exchange .gathered + 128 ≤ length (now out)) ⌝ }
 {
+    if !exchange.is_whole() {
+        return exchange;
+    }
+    let kept = exchange.kept;
+    let at = exchange.gathered;
     let answer = answer_line(&line[..kept], &mut out[at..at + 127]);
     let to = at + printed(answer);
     out[to] = 10;
-    to + 1
+    exchange.gathered = to + 1;
+    exchange
 }
 
 // How much was printed; there is always room, since no answer has that many bytes.
@@ -35,43 +38,19 @@ fn printed(answer: PrintAnswer) -> usize
     }
 }
 
-// All of standard input; answers how much is left to be written. A line of more than 64 bytes is kept
-// as 65, which is as many as it takes to refuse it. The loop counts down from a number that no input
-// uses up.
-fn run(piece: &mut [u8], line: &mut [u8], out: &mut [u8]) -> usize
-    requires { ⌜ (length (now line) ≡ 65) × (length (now out) ≡ 65536) ⌝ }
-    ensures { λ left. ⌜ left ≤ 65536 ⌝ }
-{
-    let mut input = Input::new();
-    let mut at: usize = 0;
-    let mut turns = u64::MAX;
-    while turns > 0 {
-        turns -= 1;
-        input = input.next(piece, line);
-        at = answered(input, line, out, at);
-        if input.ended {
-            return at;
-        }
-    }
-    at
-}
-
-fn answered(input: Input, line: &[u8], out: &mut [u8], at: usize) -> usize
-    requires { ⌜ (length (now line) ≡ 65) × ((input .kept ≤ 65) × ((length (now out) ≡ 65536) × (at + 128 ≤ 65536))) ⌝ }
-    ensures { λ left. ⌜ left + 128 ≤ 65536 ⌝ }
-{
-    let kept = input.kept;
-    if input.whole {
-        let to = finish(line, kept, out, at);
-        return flush(out, to, 128);
-    }
-    at
-}
-
+// All of standard input, or so much of it as can be read and answered. A line of more than 64 bytes is kept as 65,
+// which is as many as it takes to refuse it. The loop counts down from a number that no
+// input uses up.
 fn main() {
     let mut piece = io::large_buffer();
-    let mut out = io::large_buffer();
     let mut line = [0u8; 65];
-    let left = run(&mut piece, &mut line, &mut out);
-    lines::write(&out, left);
+    let mut out = io::large_buffer();
+    let mut exchange = Exchange::new();
+    let mut turns = u64::MAX;
+    while turns > 0 {
+        exchange = exchange.next(&mut piece, &mut line, &out, 128);
+        exchange = answered(exchange, &line, &mut out);
+        turns = exchange.left(turns);
+    }
+    exchange.close(&out);
 }

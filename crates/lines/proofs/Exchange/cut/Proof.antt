@@ -1,16 +1,17 @@
--- The piece is not passed, nor the room for a line.
+-- The piece is not passed, nor the room for a line; LF stops.
 use mathlib.Core.Path.{_≡_}
 use Prim.Native.Nat.{_-_, _≤_}
 use native.Mathlib.Omega.{arith}
 use lib.ListN.{length}
-use Rattle.lines.proofs.Input.cut.Statement.{statement}
-use Rattle.lines.proofs.Input.cut.Tie as tie
+use Rattle.lines.proofs.StepLaws.{amid-within, amid-stopped, after-LF}
+use Rattle.lines.proofs.Exchange.cut.Statement.{statement}
+use Rattle.lines.proofs.Exchange.cut.Tie as tie
 
 abbrev Inv-loop : tie.InvT-loop
-Inv-loop piece line₀ end at₀ kept₀ line at kept = (end ≤ length piece) × ((at ≤ end) × ((length line ≡ length line₀) × (kept ≤ length line)))
+Inv-loop piece line₀ end gathered at₀ kept₀ line at kept = (end ≤ length piece) × ((at ≤ end) × ((length line ≡ length line₀) × (kept ≤ length line)))
 
 abbrev μ-loop : tie.MeasureT-loop
-μ-loop piece line₀ end at₀ kept₀ line at kept = end - at
+μ-loop piece line₀ end gathered at₀ kept₀ line at kept = end - at
 
 loop-holds : tie.Need-loop-holds Inv-loop μ-loop
 loop-holds c = omega arith
@@ -25,7 +26,7 @@ same-length : tie.Need-same-length Inv-loop μ-loop
 same-length c = omega arith
 
 returns : tie.Need-returns Inv-loop μ-loop
-returns c = omega arith
+returns c = (omega arith, (omega arith, search after-LF))
 
 keep-requires : tie.Need-keep-requires Inv-loop μ-loop
 keep-requires c κs = omega arith
@@ -43,7 +44,8 @@ same-length-2 : tie.Need-same-length-2 Inv-loop μ-loop
 same-length-2 c = omega arith
 
 returns-2 : tie.Need-returns-2 Inv-loop μ-loop
-returns-2 c = omega arith
+returns-2 c =
+    (amid-within _ _ _ (c .amid .ensures) (omega arith), amid-stopped _ (c .amid .ensures) (omega arith))
 
 pub cut-spec : {M : Type 1} → statement M
 cut-spec =

@@ -3,46 +3,54 @@ use mathlib.Core.Path.{sym}
 use native.Mathlib.Omega.{arith}
 use lib.Seq.{length-take-le}
 use borrow.Author.Needs.{needs}
-use Rattle.vectors.proofs.finish.Statement.{statement}
-use Rattle.vectors.proofs.finish.Tie as tie
+use Rattle.vectors.proofs.answered.Statement.{statement}
+use Rattle.vectors.proofs.answered.Tie as tie
+
+is-whole-requires : tie.Need-is-whole-requires
+is-whole-requires c κs = tt
+
+returns : tie.Need-returns
+returns c = tt
 
 slice-aggregate-answer : tie.Need-slice-aggregate-answer
 slice-aggregate-answer c = sym (length-take-le _ _ (omega arith))
 
 add-answer : tie.Need-add-answer
-add-answer c = search needs
+add-answer c = omega arith
 
 sub-answer : tie.Need-sub-answer
-sub-answer c = search needs
+sub-answer c = omega arith
 
 part-answer-start : tie.Need-part-answer-start
-part-answer-start c = search needs
+part-answer-start c = omega arith
 
 part-answer-end : tie.Need-part-answer-end
-part-answer-end c = search needs
+part-answer-end c = omega arith
 
 answer-requires : tie.Need-answer-requires
-answer-requires c κs = search needs
+answer-requires c κs = tt
 
 add-to : tie.Need-add-to
-add-to c = search needs
+add-to c = omega arith
 
 slice-write-out : tie.Need-slice-write-out
-slice-write-out c = search needs
+slice-write-out c = omega arith
 
-add-result : tie.Need-add-result
-add-result c = search needs
+add-exchange : tie.Need-add-exchange
+add-exchange c = omega arith
 
 same-length : tie.Need-same-length
 same-length c = search needs
 
-returns : tie.Need-returns
-returns c = search needs
+returns-2 : tie.Need-returns-2
+returns-2 c = tt
 
-pub finish-spec : {M : Type 1} → statement M
-finish-spec =
+pub answered-spec : {M : Type 1} → statement M
+answered-spec =
     tie.close
     (tie.spec
+    is-whole-requires
+    returns
     slice-aggregate-answer
     add-answer
     sub-answer
@@ -51,6 +59,6 @@ finish-spec =
     answer-requires
     add-to
     slice-write-out
-    add-result
+    add-exchange
     same-length
-    returns)
+    returns-2)
