@@ -19,7 +19,7 @@ use Rattle.whole.proofs.Parts.{up, dn, le-parts, parts-le}
 use Rattle.whole.proofs.View.{rd, kept}
 use Rattle.turtle.specs.declared.AB.{AB}
 use Rattle.turtle.specs.Plane.{ab, origin, _⊕_, neg, signed, thrice}
-use Rattle.turtle.specs.Sizes.{Within}
+use Rattle.turtle.specs.Inside.Sizes.{Within}
 use Rattle.turtle.proofs.WalkLaws.{v-small}
 use Rattle.classifier.specs.declared.Corner.{Corner}
 use Rattle.classifier.specs.declared.Hull.{Hull}

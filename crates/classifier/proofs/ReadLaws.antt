@@ -16,7 +16,7 @@ use Rattle.whole.proofs.Parts.{up, dn, up-pos, dn-pos, neg-up, neg-dn, parts-le
 use Rattle.whole.proofs.View.{View, rd, v-mag, v-prod, v-add, v-neg, seen, fits, kept}
 use Rattle.turtle.specs.declared.AB.{AB}
 use Rattle.turtle.specs.Plane.{equal}
-use Rattle.turtle.specs.Sizes.{Within}
+use Rattle.turtle.specs.Inside.Sizes.{Within}
 use Rattle.classifier.specs.Hulls.{earlier, cross}
 
 -- ---- a leaf of eight bits

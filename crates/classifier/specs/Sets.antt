@@ -9,7 +9,7 @@ use lib.IntN.{ℤ, negℤ, _+ℤ_}
 use lib.ListN.{length, getD, take}
 use Rattle.turtle.specs.declared.AB.{AB}
 use Rattle.turtle.specs.Plane.{origin}
-use Rattle.turtle.specs.Sizes.{Within}
+use Rattle.turtle.specs.Inside.Sizes.{Within}
 use Rattle.classifier.specs.declared.Placed.{Placed}
 use Rattle.classifier.specs.declared.Separator.{Separator}
 use Rattle.classifier.specs.declared.groups.Group.{Group}

@@ -3,7 +3,7 @@
 ghost use mathlib.Core.Path.{_≡_};
 ghost use Prim.Native.Nat.{_<_};
 ghost use lib.ListN.{length, getD};
-ghost use Rattle.turtle.specs.Sizes.{Within};
+ghost use Rattle.turtle.specs.Inside.Sizes.{Within};
 ghost use Rattle.turtle.specs.Plane.{origin, _⊕_, signed, thrice};
 ghost use Rattle.classifier.specs.Splits.{lineThrough, value, over, under};
 ghost use Rattle.classifier.specs.Parts.{pointOf, pointsOf, cornersOf};

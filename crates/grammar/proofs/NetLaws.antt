@@ -26,11 +26,12 @@ use Rattle.turtle.specs.declared.walk.Turtle.{Turtle}
 use Rattle.turtle.specs.declared.walk.Stepped.{Stepped}
 use Rattle.turtle.specs.Letters.{strokeOf}
 use Rattle.turtle.specs.Plane.{origin, _⊕_, far, equalAB}
-use Rattle.turtle.specs.Sizes.{Within, Small}
+use Rattle.turtle.specs.Inside.Sizes.{Within, Small}
 use Rattle.turtle.specs.Walk.{Sym, left, right, letter, drawn, symbolOf, symbolsOf, start, move, final, stepBy, stepOf, cornersBy, cornersOf}
 use Rattle.turtle.proofs.LetterLaws.{stroke-small}
 use Rattle.turtle.proofs.SymbolLaws.{symbols-append}
-use Rattle.turtle.proofs.WalkLaws.{small-more, rots-small, add-small, far-is}
+use Rattle.turtle.proofs.WalkLaws.{small-more, rots-small, add-small}
+use Rattle.turtle.proofs.LimitLaws.{far-false}
 use Rattle.turtle.proofs.WordLaws.{final-append}
 use Rattle.grammar.specs.declared.lines.Lines.{Lines}
 use Rattle.grammar.specs.declared.word.Book.{Book}
@@ -171,8 +172,10 @@ near {p} s =
     let ah = le-of va (search view) tt (s .a .high) in
     let bl = le-of (search view) vb tt (s .b .low) in
     let bh = le-of vb (search view) tt (s .b .high) in
-    far-is p false (λ e. absurd (let z : _≡_ {A = ℕ} 0 1 = cc in omega arith))
-    (λ e. (le-by (search view) va tt (omega arith), (le-by va (search view) tt (omega arith), (le-by (search view) vb tt (omega arith), (le-by vb (search view) tt (omega arith), tt)))))
+    far-false p (record {
+      a = record { low = le-by (search view) va tt (omega arith); high = le-by va (search view) tt (omega arith) };
+      b = record { low = le-by (search view) vb tt (omega arith); high = le-by vb (search view) tt (omega arith) };
+    })
 
 module _ (b : ℕ) (t : Turtle) (small : Small 65536 (t .at) × (t .heading < 6)) where
   pub step-near : stepOf b t ≡ stepBy (symbolOf b) t

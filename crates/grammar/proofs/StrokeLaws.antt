@@ -15,7 +15,7 @@ use Rattle.turtle.specs.declared.letter.Flavor.{Flavor}
 use Rattle.turtle.specs.declared.letter.Letter.{Letter}
 use Rattle.turtle.specs.Letters.{toggled, Row, letters, lookup, strokeOf}
 use Rattle.turtle.specs.Walk.{Sym, left, right, letter, drawn, symbolOf, symbolsOf}
-use Rattle.turtle.specs.Sizes.{SmallStroke}
+use Rattle.turtle.specs.Inside.Sizes.{SmallStroke}
 use Rattle.turtle.proofs.LetterLaws.{stroke-small}
 use Rattle.grammar.specs.Words.{isUpper, upper, mirrored, reversed, wordOf}
 use Rattle.grammar.specs.Texts.{Line, linesOf}

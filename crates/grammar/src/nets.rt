@@ -3,7 +3,7 @@ ghost use mathlib.Core.Path.{_≡_};
 ghost use Prim.Native.Nat.{_<_, _≤_};
 ghost use lib.ListN.{length, take};
 ghost use Rattle.turtle.specs.Plane.{_⊕_, equalAB};
-ghost use Rattle.turtle.specs.Sizes.{Small};
+ghost use Rattle.turtle.specs.Inside.Sizes.{Small};
 ghost use Rattle.turtle.specs.Walk.{symbolOf, symbolsOf, start, final};
 ghost use Rattle.grammar.specs.Words.{expandOnce};
 ghost use Rattle.grammar.specs.Books.{bookOf};

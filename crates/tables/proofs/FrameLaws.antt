@@ -13,7 +13,7 @@ use mir.Val.{SFits, toZ, ofZ}
 use Rattle.whole.proofs.View.{view, v-bits, v-add, v-neg, eq-by, fits, kept}
 use Rattle.turtle.specs.declared.AB.{AB}
 use Rattle.turtle.specs.Plane.{ab, origin, _⊕_, neg, signed, flipped, facing, thrice}
-use Rattle.turtle.specs.Sizes.{Within, Small}
+use Rattle.turtle.specs.Inside.Sizes.{Within, Small}
 use Rattle.turtle.specs.declared.letter.Stroke.{Stroke}
 use Rattle.turtle.specs.declared.walk.Turtle.{Turtle}
 use Rattle.turtle.specs.Walk.{Sym, left, right, letter, turtle, start, move, final}

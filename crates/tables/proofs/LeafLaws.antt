@@ -25,7 +25,7 @@ use Rattle.turtle.specs.declared.walk.Corners.{Corners}
 use Rattle.turtle.specs.declared.walk.Stepped.{Stepped}
 use Rattle.turtle.specs.declared.walk.Hosted.{Hosted}
 use Rattle.turtle.specs.Plane.{ab, origin, _⊕_, rots, facing}
-use Rattle.turtle.specs.Sizes.{Within, Small, SmallStroke}
+use Rattle.turtle.specs.Inside.Sizes.{Within, Small, SmallStroke}
 use Rattle.turtle.specs.Letters.{strokeOf}
 use Rattle.turtle.specs.Walk.{Sym, left, right, letter, drawn, symbolOf, symbolsOf, turtle, start, move, corner, corners, cell, cells, final, stepBy, stepOf, cornersOf}
 use Rattle.turtle.proofs.WalkLaws.{v-small, small-more, add-small, rots-small}

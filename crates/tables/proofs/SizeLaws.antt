@@ -17,7 +17,7 @@ use Rattle.turtle.specs.declared.walk.Turtle.{Turtle}
 use Rattle.turtle.specs.Plane.{origin, rots, signed, facing}
 use Rattle.turtle.specs.Letters.{toggled}
 use Rattle.turtle.specs.Walk.{Sym, left, right, letter, turtle, start, move, corner, turnedFlavor, cell, cells, final}
-use Rattle.turtle.specs.Sizes.{Within, Small, SmallStroke}
+use Rattle.turtle.specs.Inside.Sizes.{Within, Small, SmallStroke}
 use Rattle.turtle.proofs.PlaneLaws.{rots-flip}
 use Rattle.turtle.proofs.WalkLaws.{v-small, small-more, rots-small, add-small}
 use Rattle.grammar.specs.Texts.{Line, linesOf}

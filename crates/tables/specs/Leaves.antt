@@ -10,7 +10,7 @@ use Rattle.turtle.specs.declared.walk.Turtle.{Turtle}
 use Rattle.turtle.specs.declared.walk.Cell.{Cell}
 use Rattle.turtle.specs.declared.walk.Corners.{Corners}
 use Rattle.turtle.specs.declared.walk.Hosted.{Hosted}
-use Rattle.turtle.specs.Sizes.{Small, SmallStroke}
+use Rattle.turtle.specs.Inside.Sizes.{Small, SmallStroke}
 use Rattle.turtle.specs.Walk.{Sym, letter, move, corners, cell, cells, final}
 use Rattle.classifier.specs.declared.Corner.{Corner}
 use Rattle.classifier.specs.Parts.{pointOf}

@@ -3,7 +3,7 @@ ghost use mathlib.Core.Path.{_≡_};
 ghost use mathlib.Core.List.{map};
 ghost use Prim.Native.Nat.{_<_};
 ghost use Rattle.turtle.specs.Plane.{_⊕_, signed, flipped};
-ghost use Rattle.turtle.specs.Sizes.{Small};
+ghost use Rattle.turtle.specs.Inside.Sizes.{Small};
 ghost use Rattle.classifier.specs.Parts.{pointOf, cornersOf, polygonsOf};
 ghost use Rattle.grammar.specs.Texts.{linesOf};
 ghost use Rattle.grammar.specs.Curves.{net, letterOf};

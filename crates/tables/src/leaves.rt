@@ -2,7 +2,7 @@
 ghost use mathlib.Core.Path.{_≡_};
 ghost use Prim.Native.Nat.{_≤_, _<_, _+_};
 ghost use Rattle.turtle.specs.Plane.{origin, facing};
-ghost use Rattle.turtle.specs.Sizes.{Small};
+ghost use Rattle.turtle.specs.Inside.Sizes.{Small};
 ghost use Rattle.turtle.specs.declared.walk.Corners.{Corners};
 ghost use Rattle.turtle.specs.declared.walk.Hosted.{Hosted};
 ghost use Rattle.turtle.specs.Walk.{symbolOf, symbolsOf, turtle};

@@ -1,5 +1,5 @@
 -- The turtle's walk: turns and strokes, the cells that it draws, where it ends.
-use mathlib.Core.Bool.{Bool, cond}
+use mathlib.Core.Bool.{cond}
 use mathlib.Core.List.{List, [], _∷_, _++_}
 use Prim.Native.Nat.{ℕ, _+_, _%_}
 use lib.Dec.{eqb}

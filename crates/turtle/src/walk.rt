@@ -3,7 +3,7 @@ ghost use mathlib.Core.Path.{_≡_};
 ghost use mathlib.Core.List.{[], _∷_};
 ghost use Rattle.turtle.specs.Walk.{stepOf, cornersOf, stepBy, letter, turtle, cell, corners, corner as cornerOf, turnedFlavor};
 ghost use Rattle.turtle.specs.Plane.{_⊕_, rot, rots};
-ghost use Rattle.turtle.specs.Sizes.{Near, Roomy, Short, SmallStroke};
+ghost use Rattle.turtle.specs.Inside.Sizes.{Near, Roomy, Short, SmallStroke};
 use crate::AB;
 use crate::letter::Flavor;
 use crate::letter::Letter;

@@ -21,8 +21,9 @@ abbrev pub Short : AB → Type 0
 Short = Small 8
 
 -- a pair that is not far: a and b are at most 2 ^ 34
-abbrev pub Near : AB → Type 0
-Near = Small 34359738368
+pub record Near (p : AB) : Type 0 where
+  pub a : Within 17179869184 (p .a)
+  pub b : Within 17179869184 (p .b)
 
 -- a pair that can be added to another one: 2 ^ 40
 abbrev pub Roomy : AB → Type 0

@@ -1,4 +1,4 @@
--- Shown of each branch by what its comparison says of the corner sums.
+-- `corner::has_corner_sum` meets its contract, in each branch by what its comparison says of the corner sums.
 use native.Mathlib.Omega.{arith}
 use borrow.Author.Needs.{needs}
 use mathlib.Core.Path.{_≡_, sym, ap, _∙_}
@@ -6,8 +6,8 @@ use Rattle.whole.proofs.View.{seen, eq-of, eq-by, told, differ, fact-of}
 use Rattle.turtle.specs.declared.AB.{AB}
 use Rattle.turtle.specs.Corners.{cornerSum}
 use Rattle.turtle.proofs.CornerLaws.{flag-is, pair-is, wide, has-wide, narrow-flag, narrow-of, has-true, has-false}
-use Rattle.turtle.proofs.corner.has.Statement.{statement}
-use Rattle.turtle.proofs.corner.has.Tie as tie
+use Rattle.turtle.proofs.corner.has_corner_sum.Statement.{statement}
+use Rattle.turtle.proofs.corner.has_corner_sum.Tie as tie
 
 is-narrow-requires : tie.Need-is-narrow-requires
 is-narrow-requires c κs = search needs
@@ -45,5 +45,5 @@ returns-3 c =
     has-true p (wide w) (record { sum = sym (sum-is s) ∙ pair-is ea eb; narrow = narrow-of (wide w) (narrow-flag (w .x) (w .y) (w .z) _ (s .before .before .before .is-narrow .ensures) (s .before .before .if1 .left)) }))
     (λ e. has-false p (wide w) (λ h. omega (arith, fact-of (search (told, e)) (search seen) (search seen) tt, eq-of (search seen) (search seen) tt (ap (λ (q : AB). q .b) (sum-is s ∙ h .sum)))))
 
-pub has-spec : {M : Type 1} → statement M
-has-spec = tie.close (tie.spec is-narrow-requires returns narrowed-requires sum-of-corners-requires returns-2 returns-3)
+pub has-corner-sum-spec : {M : Type 1} → statement M
+has-corner-sum-spec = tie.close (tie.spec is-narrow-requires returns narrowed-requires sum-of-corners-requires returns-2 returns-3)
