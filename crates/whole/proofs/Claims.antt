@@ -1,5 +1,4 @@
 -- Facts about a table that antt computes: a list of claims at every place of the table is one test, proved by `tt`, and the test gives each claim at each place.
--- Assumes nothing.
 use mathlib.Core.Path.{_≡_, ap, subst}
 use mathlib.Core.Bool.{Bool, true, false, _&&_}
 use mathlib.Core.List.{List, [], _∷_}

@@ -1,5 +1,5 @@
 -- Several comparisons of whole numbers, as one test that computes.
-use mathlib.Core.Bool.{Bool, true, false, _&&_}
+use mathlib.Core.Bool.{Bool, true, _&&_}
 use mathlib.Core.List.{List, [], _∷_}
 use lib.IntN.{ℤ}
 use lib.Signed.{leZ}
