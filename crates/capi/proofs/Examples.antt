@@ -5,7 +5,7 @@ use Prim.Native.Nat.{_^_}
 use lib.IntN.{pos, negsuc}
 use Rattle.triple.specs.Refusals.{numberOf}
 use Rattle.turtle.specs.Plane.{far}
-use Rattle.turtle.specs.Corners.{cornerSum, candidate, has, tripleOf}
+use Rattle.turtle.specs.Corners.{cornerSum, candidate, hasCornerSum, tripleOf}
 use Rattle.code.specs.Codes.{bitsOf, valueOf, bytesOf, codeLength, codeBits, codeBytes}
 use Rattle.capi.specs.Lent.{statusOf, afterCall, firstOf, secondOf}
 use Rattle.capi.specs.Calls.{tripleCall, writeCall}
@@ -17,7 +17,7 @@ pub triple-examples :
     × (statusOf (tripleCall (pos 20) (negsuc 15)) (pos 7 ∷ pos 7 ∷ []) ≡ 10)
     × (afterCall (tripleCall (pos 20) (negsuc 15)) (pos 7 ∷ pos 7 ∷ []) ≡ pos 7 ∷ pos 7 ∷ [])
     × (statusOf (tripleCall (pos 14) (negsuc 3)) [] ≡ 6)
-unfolding numberOf far cornerSum candidate has tripleOf statusOf afterCall
+unfolding numberOf far cornerSum candidate hasCornerSum tripleOf statusOf afterCall
 triple-examples = (refl, refl, refl, refl, refl)
 
 -- the code of UV r 2 s 6 and its count: with room for both; with none for the count; with none for the code

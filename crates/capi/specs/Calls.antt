@@ -1,13 +1,14 @@
 -- Each call's values, in the order in which it writes them.
 use mathlib.Core.List.{List, [], _∷_}
 use Prim.Native.Nat.{ℕ, _*_, _^_}
-use lib.Dec.{leb, ltb}
+use lib.Dec.{leb}
 use lib.IntN.{ℤ, pos}
 use lib.ListN.{length}
 use lib.Ieee.{Float}
 use Rattle.triple.specs.declared.Triple.{Triple}
 use Rattle.triple.specs.declared.refusal.Refusal.the-variants as Is
 use Rattle.triple.specs.Refusals.{Told, told, refused, refuse}
+use Rattle.triple.specs.Domain.{inDomain}
 use Rattle.turtle.specs.declared.AB.{AB}
 use Rattle.turtle.specs.Corners.{cornerSumOf, tripleOf}
 use Rattle.lsystem.specs.declared.Named.{Named}
@@ -16,7 +17,7 @@ use Rattle.nodes.specs.declared.Node.{Node}
 use Rattle.nodes.specs.declared.ChildStep.{ChildStep}
 use Rattle.nodes.specs.declared.Reached.{Reached}
 use Rattle.lsystem.specs.Cells.{cellOf, positionOf}
-use Rattle.nodes.specs.Nodes.{childOf, nodeOf}
+use Rattle.nodes.specs.Nodes.{childStepOf, nodeOf}
 use Rattle.tables.specs.Descent.{Leaf, descentOf}
 use Rattle.curve.specs.Points.{pointOf}
 use Rattle.code.specs.declared.Reading.{Reading}
@@ -76,7 +77,7 @@ abbrev pub nodeCall : ℕ → ℕ → ℤ → ℤ → ℤ → Told (List ℤ × 
 nodeCall o r x y z = valued (λ (p : Reached). nodeValues (p .node)) (nodeOf o r (record { x = x; y = y; z = z }))
 
 abbrev pub stepCall : ℕ → ℕ → Float → Float → ℕ → ℕ → ℕ → Told (List ℤ × List Float)
-stepCall m f a b d r o = valued stepValues (childOf o r (record { motif = m; flip = f; «pos_a» = a; «pos_b» = b }) d)
+stepCall m f a b d r o = valued stepValues (childStepOf o r (record { motif = m; flip = f; «pos_a» = a; «pos_b» = b }) d)
 
 abbrev pub pointCall : Float → Float → ℕ → Told (List ℤ)
 pointCall i j r = valued tripleValues (pointOf r i j)
@@ -96,10 +97,9 @@ readCall bytes = valued readingValues (readOf bytes)
 -- the code's bytes, and their count
 unfoldable pub writeCall : ℕ → ℕ → ℕ → Told (List ℕ × List ℕ)
 writeCall o r s =
-    refuse (ltb 30 r) Is.Resolution
-    (refuse (ltb 5 o) Is.Orientation
+    inDomain o r
     (refuse (leb (4 ^ r) s) Is.Position
-    (told (codeBytes o r s, countValues (codeLength r)))))
+    (told (codeBytes o r s, countValues (codeLength r))))
 
 -- the answer to a line as the program prints it, without LF, and its length
 abbrev pub lineCall : List ℕ → Told (List ℕ × List ℕ)

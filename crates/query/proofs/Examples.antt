@@ -4,16 +4,17 @@ use mathlib.Core.List.{List, [], _∷_}
 use Prim.Native.Nat.{ℕ}
 use lib.Ieee.{add, sub, le, ofInt, ofBits}
 use Rattle.triple.specs.Refusals.{numberOf}
+use Rattle.triple.specs.Orientations.{axiomMotif, axiomOf, isBackward, isShifted, placeFrom, curvePlace, movedBy, shifted}
 use Rattle.triple.specs.Triples.{inBounds}
 use Rattle.turtle.specs.Plane.{origin, _⊕_, rot, rots, far}
 use Rattle.turtle.specs.Letters.{toggled, letters, strokeOf}
 use Rattle.turtle.specs.Walk.{symbolOf, symbolsOf, move, corner, turnedFlavor, cell, cells}
-use Rattle.turtle.specs.Corners.{cornerSum, candidate, has, tripleOf}
+use Rattle.turtle.specs.Corners.{cornerSum, candidate, hasCornerSum, tripleOf}
 use Rattle.grammar.specs.Words.{upper, mirrored, reversed, wordOf, expandOnce}
 use Rattle.grammar.specs.Texts.{rowsOf, fieldsOf, lineOf, linesOf}
 use Rattle.grammar.specs.Curves.{passes, strokes, drawing}
 use Rattle.a5.specs.A5.{a5Text, a5}
-use Rattle.lsystem.specs.Cells.{axiomOf, isBackward, isShifted, placeOf, drawnCell, shifted, named, cellAt, cellOf, seek, positionOf}
+use Rattle.lsystem.specs.Cells.{drawnCell, named, cellAt, cellOf, seek, positionOf}
 use Rattle.curve.specs.Points.{near, floor, fraction, parity, settled, pointOf}
 use Rattle.query.specs.Numbers.{digitOf, isDecimal, upTo, i32, f64, digits, natural, integer}
 use Rattle.query.specs.Queries.{answerOf}
@@ -35,7 +36,7 @@ pub line-examples :
     × (answerLine (80 ∷ 32 ∷ 48 ∷ 32 ∷ 49 ∷ 32 ∷ 52 ∷ []) ≡ 33 ∷ 32 ∷ 51 ∷ [])
     -- C 0 1 0 2 -2 prints ! 5
     × (answerLine (67 ∷ 32 ∷ 48 ∷ 32 ∷ 49 ∷ 32 ∷ 48 ∷ 32 ∷ 50 ∷ 32 ∷ 45 ∷ 50 ∷ []) ≡ 33 ∷ 32 ∷ 53 ∷ [])
-unfolding numberOf inBounds origin _⊕_ rot rots far toggled letters strokeOf symbolOf symbolsOf move corner turnedFlavor cell cells cornerSum candidate has tripleOf upper mirrored reversed wordOf expandOnce rowsOf fieldsOf lineOf linesOf passes strokes drawing a5Text a5 axiomOf isBackward isShifted placeOf drawnCell shifted named cellAt cellOf seek positionOf near floor fraction parity settled pointOf add sub le ofInt ofBits digitOf isDecimal upTo i32 f64 digits natural integer answerOf positionQuery cellQuery pointQuery starts queryOf wordsOf spaced answerLine
+unfolding numberOf inBounds origin _⊕_ rot rots far toggled letters strokeOf symbolOf symbolsOf move corner turnedFlavor cell cells cornerSum candidate hasCornerSum tripleOf upper mirrored reversed wordOf expandOnce rowsOf fieldsOf lineOf linesOf passes strokes drawing a5Text a5 axiomMotif axiomOf isBackward isShifted placeFrom curvePlace movedBy shifted drawnCell named cellAt cellOf seek positionOf near floor fraction parity settled pointOf add sub le ofInt ofBits digitOf isDecimal upTo i32 f64 digits natural integer answerOf positionQuery cellQuery pointQuery starts queryOf wordsOf spaced answerLine
 line-examples = (refl, refl, refl, refl, refl, refl, refl)
 
 -- the refusals in their order
