@@ -1,8 +1,8 @@
 -- What each answer about nodes says: its values, or its refusal's number.
 use Prim.Native.Nat.{ℕ}
-use lib.Dec.{ltb}
 use Rattle.triple.specs.declared.refusal.Refusal.the-variants as Is
-use Rattle.triple.specs.Refusals.{Told, told, refused, numberOf, refuse}
+use Rattle.triple.specs.Refusals.{Told, told, refused, numberOf}
+use Rattle.triple.specs.Domain.{inOrientation}
 use Rattle.lsystem.specs.declared.Named.{Named}
 use Rattle.nodes.specs.declared.Node.{Node}
 use Rattle.nodes.specs.declared.ChildStep.{ChildStep}
@@ -15,7 +15,7 @@ use Rattle.nodes.specs.Nodes.{axiomNode}
 
 -- THE NODE of the axiom of the orientation o
 unfoldable pub axiomNodeOf : ℕ → Told Node
-axiomNodeOf o = refuse (ltb 5 o) Is.Orientation (told (axiomNode o))
+axiomNodeOf o = inOrientation o (told (axiomNode o))
 
 abbrev pub saidNode : NodeAnswer → Told Node
 saidNode (NodeAnswer.Node n) = told n
