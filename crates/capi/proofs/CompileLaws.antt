@@ -22,7 +22,7 @@ use Rattle.tables.specs.Compiler.{Compiled, states, faulty, tableFor, compiledT
 use Rattle.tables.specs.Compiler as Compiler
 use Rattle.tables.specs.Verdicts.{verdict}
 use Rattle.tables.proofs.Entries.{length-table}
-use Rattle.tables.proofs.CompileLaws.{when-states, when-refused, when-faulty, some-tokens}
+use Rattle.tables.proofs.CompilerLaws.{when-states, when-refused, when-faulty, some-tokens}
 use Rattle.capi.specs.Lent.{statusOf, afterCall, firstOf, secondOf}
 use Rattle.capi.specs.Calls.{countValues, compileCall, lineOr}
 use Rattle.capi.proofs.LentLaws.{Called, CalledBoth, put-known, none-written, both-whole, first-short, second-short}

@@ -12,9 +12,11 @@ use Rattle.grammar.specs.declared.lines.Scan.{Scan}
 use Rattle.grammar.specs.declared.text.Test.{Test}
 use Rattle.grammar.specs.Texts.{rowsOf, Line, linesOf}
 use Rattle.grammar.specs.Tests.{Verdict, fine, fault, first, faultAt, badShape, badMotif, badRule, badCount, badHeading, badDraw, badTurns, badNet, lineTests, someRows, textTests}
-use Rattle.grammar.specs.TextParts.{lineAt, linesFrom, linesBy, Scanned, testOf}
+use Rattle.grammar.specs.TextParts.{lineAt, linesFrom, linesBy, Sized, testOf}
+use Rattle.grammar.specs.Scans.{scanOf}
 use Rattle.grammar.proofs.FirstLaws.{firstAt, first-next, first-here, first-none}
-use Rattle.grammar.proofs.LineLaws.{length-lines, some-row}
+use Rattle.grammar.proofs.PlaceLaws.{length-lines, Places, places-lines, scan-places}
+use Rattle.grammar.proofs.ScanLaws.{some-row}
 
 -- ---- the lines, one by one
 take-lines : (text : List ℕ) (ls : Lines) (n k i : ℕ) → n ≤ k → take n (linesFrom text ls k i) ≡ linesFrom text ls n i
@@ -146,17 +148,36 @@ module _ (text : List ℕ) where
       go [] h = refl
       go (b ∷ t) h = absurd (omega arith)
 
-  module _ (some : length text ≡ 0 → ⊥) {s : Scan} (scanned : Scanned text s) where
-    rows-tested : (next : Verdict) → someRows (rowsOf text) next ≡ faultAt 12 (first badShape (rowsOf text)) next
-    rows-tested next = let r = some-row text (omega arith) in rw (r .rows) refl
+  module _ {s : Scan} (scanned : s ≡ scanOf text) where
+    pub lines-kept : s .lines ≡ scanOf text .lines
+    lines-kept = ap (λ s. s .lines) scanned
 
-    pub text-shape : (s .fault ≡ 0 → ⊥) → fault 12 (s .fault) ≡ textTests text fine
-    unfolding textTests
-    text-shape h = stopped 12 (scanned .fault) (lineTests (linesOf text) fine) h ∙ sym (rows-tested (lineTests (linesOf text) fine))
+    fault-is : s .fault ≡ first badShape (rowsOf text)
+    unfolding scanOf
+    fault-is = ap (λ s. s .fault) scanned
 
-    pub text-lines : s .fault ≡ 0 → {v : Verdict} → v ≡ lineTests (linesBy text (s .lines)) fine → v ≡ textTests text fine
-    unfolding textTests
-    text-lines h e =
-        passed-by 12 (scanned .fault) (lineTests (linesOf text) fine) h (e ∙ ap (λ ls. lineTests ls fine) (scanned .lines h)) ∙ sym (rows-tested (lineTests (linesOf text) fine))
+    places : s .fault ≡ 0 → Places text (s .lines) (linesOf text)
+    places h = rw scanned (scan-places text (sym fault-is ∙ h))
+
+    pub scanned-sized : s .fault ≡ 0 → Sized (s .lines)
+    scanned-sized h = places h .sized
+
+    pub scanned-lines : s .fault ≡ 0 → linesBy text (s .lines) ≡ linesOf text
+    scanned-lines h = places-lines (places h)
+
+    module _ (some : length text ≡ 0 → ⊥) where
+      rows-tested : (next : Verdict) → someRows (rowsOf text) next ≡ faultAt 12 (first badShape (rowsOf text)) next
+      rows-tested next = let r = some-row text (omega arith) in rw (r .rows) refl
+
+      pub text-shape : (s .fault ≡ 0 → ⊥) → fault 12 (s .fault) ≡ textTests text fine
+      unfolding textTests
+      text-shape h = stopped 12 fault-is (lineTests (linesOf text) fine) h ∙ sym (rows-tested (lineTests (linesOf text) fine))
+
+      pub text-lines : s .fault ≡ 0 → {v : Verdict} → v ≡ lineTests (linesBy text (s .lines)) fine → v ≡ textTests text fine
+      unfolding textTests
+      text-lines h e =
+          passed-by 12 fault-is (lineTests (linesOf text) fine) h (e ∙ ap (λ ls. lineTests ls fine) (scanned-lines h)) ∙ sym (rows-tested (lineTests (linesOf text) fine))
 
 pub ruleset order = (fault-motif, fault-rule, fault-count, fault-heading, fault-draw, fault-turns, fault-net, fault-none)
+
+pub ruleset scanned-text = (empty-text, scanned-sized, text-shape, text-lines)

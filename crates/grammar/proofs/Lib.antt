@@ -16,9 +16,11 @@ pub mod WordDetermined
 pub mod CutLaws
 pub mod ListLaws
 pub mod FirstLaws
-pub mod LineLaws
+pub mod PlaceLaws
+pub mod ScanLaws
 pub mod TallyLaws
 pub mod VerdictLaws
 pub mod NetLaws
 pub mod AnswerLaws
+pub mod DecidedLaws
 pub mod TextDetermined

@@ -1,7 +1,7 @@
 -- Parts of lists, as slices give them.
 -- Assumes nothing.
 use mathlib.Core.Path.{_≡_, refl, sym, ap, _∙_}
-use mathlib.Core.List.{List, [], _∷_, head-eq-of-cons-eq, tail-eq-of-cons-eq}
+use mathlib.Core.List.{List, [], _∷_, map, head-eq-of-cons-eq, tail-eq-of-cons-eq}
 use Prim.Native.Nat.{ℕ, zero, suc, _-_, _<_}
 use native.Mathlib.Nat.{le-refl, sub-zero}
 use native.Mathlib.Omega.{arith}
@@ -24,3 +24,8 @@ module _ {A : Type 0} where
   at-drop [] i {a} {rest} e = let z : drop i [] ≡ [] = drop-nil i in let bad : 0 ≡ suc (length rest) = ap length (sym z ∙ e) in absurd (omega arith)
   at-drop (b ∷ l) zero e = (omega arith, head-eq-of-cons-eq e, tail-eq-of-cons-eq e)
   at-drop (b ∷ l) (suc i) e = let r = at-drop l i e in (omega (arith, r .0), r .1, r .2)
+
+pub take-map : {A B : Type 0} (f : A → B) (n : ℕ) (l : List A) → take n (map f l) ≡ map f (take n l)
+take-map f zero l = refl
+take-map f (suc n) [] = refl
+take-map f (suc n) (a ∷ l) = ap (λ r. f a ∷ r) (take-map f n l)

@@ -129,14 +129,18 @@ module _ (ls : List Line) (next : Verdict) (p : lineTests ls next ≡ fine) wher
       }
 
 -- ---- the text
-some-rows : (rs : List Row) (next : Verdict) → someRows rs next ≡ fine → next ≡ fine
-some-rows [] next e = cc
-some-rows (r ∷ rs) next e = no-fault 12 (first badShape (r ∷ rs)) next e .1
+some-rows : (rs : List Row) (next : Verdict) → someRows rs next ≡ fine → (first badShape rs ≡ 0) × (next ≡ fine)
+some-rows [] next e = (cc, cc)
+some-rows (r ∷ rs) next e = no-fault 12 (first badShape (r ∷ rs)) next e
 
 module _ (text : List ℕ) (next : Verdict) (p : textTests text next ≡ fine) where
   lines-fine : lineTests (linesOf text) next ≡ fine
   unfolding textTests
-  lines-fine = some-rows (rowsOf text) _ p
+  lines-fine = some-rows (rowsOf text) _ p .1
+
+  pub rows-fine : first badShape (rowsOf text) ≡ 0
+  unfolding textTests
+  rows-fine = some-rows (rowsOf text) _ p .0
 
   pub good-lines : (l : Line) → List·Memᴰ l (linesOf text) → Good (linesOf text) l
   good-lines = good (linesOf text) next lines-fine

@@ -6,4 +6,5 @@ pub mod WordAnswers
 pub mod Books
 pub mod Ways
 pub mod TextAnswers
+pub mod Scans
 pub mod TextParts

@@ -4,17 +4,18 @@ use mathlib.Core.Bool.{Bool, true, false, cond, _&&_, _||_}
 use mathlib.Core.List.{List, [], _∷_}
 use Prim.Native.Nat.{ℕ, zero, suc, _+_, _-_, _%_, _≤_, _<_, min}
 use lib.Dec.{eqb}
-use lib.ListN.{length, getD, take, drop, set}
+use lib.ListN.{length, getD, take, drop}
 use Rattle.turtle.specs.Walk.{Sym, left, right, letter, symbolOf, symbolsOf}
 use Rattle.grammar.specs.Words.{upper, reversed}
 use Rattle.grammar.specs.Books.{rowWord}
-use Rattle.grammar.specs.Texts.{Row, shaped, Line, lineOf, rowsOf, linesOf}
+use Rattle.grammar.specs.Texts.{Row, shaped, Line, lineOf, rowsOf}
 use Rattle.grammar.specs.Curves.{isNamed, childOf, childrenOf, turned, letters, upright}
-use Rattle.grammar.specs.Tests.{first, badShape, badMotif, lawfulRule, badRule, badCount, badHeading, isTurn, isStroke, lawfulDraw, badDraw, badTurns, badNet}
+use Rattle.grammar.specs.Tests.{badMotif, lawfulRule, badRule, badCount, badHeading, isTurn, isStroke, lawfulDraw, badDraw, badTurns, badNet}
 use Rattle.grammar.specs.declared.lines.Lines.{Lines}
 use Rattle.grammar.specs.declared.word.Book.{Book}
-use Rattle.grammar.specs.declared.lines.Scan.{Scan}
 use Rattle.grammar.specs.declared.lines.Shape.{Shape}
+use Rattle.grammar.specs.declared.lines.Scanner.{Scanner}
+use Rattle.grammar.specs.Scans.{added}
 use Rattle.grammar.specs.declared.tally.Kind.{Kind}
 use Rattle.grammar.specs.declared.tally.Tally.{Tally}
 use Rattle.grammar.specs.declared.text.Test.{Test}
@@ -44,23 +45,6 @@ hasName names b (suc k) i = eqb (getD names i 0) b || hasName names b k (suc i)
 -- the first `count` of eight
 unfoldable pub linesBy : List ℕ → Lines → List Line
 linesBy text ls = linesFrom text ls (min (ls .count) 8) 0
-
-abbrev zeros : List ℕ
-zeros = 0 ∷ 0 ∷ 0 ∷ 0 ∷ 0 ∷ 0 ∷ 0 ∷ 0 ∷ []
-
-abbrev pub noLines : Lines
-noLines = record { name = zeros; rule = zeros; «rule_len» = zeros; draw = zeros; «draw_len» = zeros; count = 0 }
-
--- one line more
-abbrev pub added : Lines → ℕ → ℕ → ℕ → ℕ → ℕ → Lines
-added ls name rule long draw wide = record {
-  name = set (ls .name) (ls .count) name;
-  rule = set (ls .rule) (ls .count) rule;
-  «rule_len» = set (ls .«rule_len») (ls .count) long;
-  draw = set (ls .draw) (ls .count) draw;
-  «draw_len» = set (ls .«draw_len») (ls .count) wide;
-  count = ls .count + 1;
-}
 
 -- no rule has more than 24 bytes, no draw more than 12
 pub record Sized (ls : Lines) : Type 0 where
@@ -111,11 +95,16 @@ abbrev pub FirstRow : List ℕ → Shape → Type 0
 FirstRow t (Shape.Line k n) = Cut t k n
 FirstRow t Shape.Other = Misshapen t
 
--- what a scan finds: the first line at fault by 12, or the lines
-pub record Scanned (text : List ℕ) (s : Scan) : Type 0 where
-  pub fault : s .fault ≡ first badShape (rowsOf text)
-  pub lines : s .fault ≡ 0 → linesBy text (s .lines) ≡ linesOf text
-  pub sized : Sized (s .lines)
+-- a line in a text from `at` on
+pub record Room (text : List ℕ) (at k n : ℕ) : Type 0 where
+  pub inside : at + n < length text
+  pub long : k + 3 < n
+  pub rule-fits : k ≤ 24
+  pub draw-fits : n ≤ k + 15
+
+abbrev pub rowAdded : List ℕ → Scanner → ℕ → ℕ → Scanner
+rowAdded text s k n =
+    record { lines = added (s .lines) (getD text (s .at) 0) (s .at + 2) k (s .at + (k + 3)) (n - (k + 3)); at = s .at + (n + 1) }
 
 -- ---- what a word's symbols come to, and whether each of its bytes may stand there
 pub record Tallied {A : Type 0} (w : List (Sym A)) (ok : Bool) (t : Tally) : Type 0 where

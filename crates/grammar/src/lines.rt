@@ -6,7 +6,8 @@ ghost use Prim.Native.Nat.{_<_, _≤_, min};
 ghost use lib.Dec.{leb};
 ghost use lib.ListN.{length, drop};
 ghost use Rattle.grammar.specs.Words.{upper};
-ghost use Rattle.grammar.specs.TextParts.{until, lineAt, noLines, added, Scanned, WholeRow, FirstRow, hasName, ruleBook, drawBook};
+ghost use Rattle.grammar.specs.TextParts.{until, lineAt, WholeRow, FirstRow, Room, rowAdded, hasName, ruleBook, drawBook};
+ghost use Rattle.grammar.specs.Scans.{noLines, added, scanOf};
 use crate::word::Book;
 use crate::word::least;
 use crate::word::upper;
@@ -23,10 +24,17 @@ pub struct Lines {
     pub count: usize,
 }
 
-// The lines of a text, if none is at fault by 12; else the number of the first that is.
+// The lines of a text before the first that is at fault by 12, and the number of that one; all lines
+// and 0 where there is none. Behind the last line the arrays have 0.
 pub struct Scan {
     pub lines: Lines,
     pub fault: usize,
+}
+
+// The lines of the rows so far, and where the next row begins.
+struct Scanner {
+    lines: Lines,
+    at: usize,
 }
 
 // The first row of a text: a line, by the lengths of its rule and of the whole of it.
@@ -145,33 +153,50 @@ fn added(lines: Lines, name: u8, rule: usize, long: usize, draw: usize, wide: us
     }
 }
 
-// The text cut into lines, at most eight. Nothing of them is tested but their shape.
-pub fn scan_text(text: &[u8]) -> Scan
-    ensures { λ s. ⌜ Scanned (now (text .entry)) s ⌝ }
+// The row at hand as one line more: n bytes before its LF, and as many of them its rule's as `long`.
+fn with_row(text: &[u8], so_far: Scanner, long: usize, n: usize) -> Scanner
+    requires { ⌜ («so_far» .lines .count < 8) × Room (now text) («so_far» .at) long n ⌝ }
+    ensures { λ r. ⌜ r ≡ rowAdded (now (text .entry)) «so_far» long n ⌝ }
 {
-    let mut lines = no_lines();
-    let mut at = 0;
-    while at < text.len() {
-        if lines.count == 8 {
-            return Scan { lines, fault: 9 };
-        }
-        let row = first_row(rest_of(text, at));
-        let Shape::Line(long, n) = row else {
-            return Scan {
-                lines,
-                fault: lines.count + 1,
-            };
-        };
-        lines = added(
+    let at = so_far.at;
+    let lines = so_far.lines;
+    Scanner {
+        lines: added(
             lines,
             text[at],
             at + 2,
             long,
             at + (long + 3),
             n - (long + 3),
-        );
-        at += n + 1;
+        ),
+        at: at + (n + 1),
     }
+}
+
+// The text cut into lines, at most eight, up to the first that is at fault by 12. Nothing of them is
+// tested but their shape.
+pub fn scan_text(text: &[u8]) -> Scan
+    ensures { λ s. ⌜ s ≡ scanOf (now (text .entry)) ⌝ }
+{
+    let mut so_far = Scanner {
+        lines: no_lines(),
+        at: 0,
+    };
+    while so_far.at < text.len() {
+        let lines = so_far.lines;
+        if lines.count == 8 {
+            return Scan { lines, fault: 9 };
+        }
+        let row = first_row(rest_of(text, so_far.at));
+        let Shape::Line(long, n) = row else {
+            return Scan {
+                lines,
+                fault: lines.count + 1,
+            };
+        };
+        so_far = with_row(text, so_far, long, n);
+    }
+    let lines = so_far.lines;
     Scan { lines, fault: 0 }
 }
 

@@ -4,9 +4,11 @@ ghost use mathlib.Core.List.{List};
 ghost use Prim.Native.Nat.{ℕ, _<_, min};
 ghost use lib.ListN.{take};
 ghost use Rattle.grammar.specs.Tests.{first, badMotif, badRule, badCount, badHeading, badDraw, badTurns, badNet, lineTests, textTests, fine};
+ghost use Rattle.grammar.specs.Scans.{scanOf};
 ghost use Rattle.grammar.specs.TextAnswers.{saidText};
 ghost use Rattle.grammar.specs.TextParts.{lineAt, linesBy, linesFrom, Sized, testOf};
 use crate::lines::Lines;
+use crate::lines::Scan;
 use crate::lines::draw_of;
 use crate::lines::is_named;
 use crate::lines::rule_book;
@@ -25,6 +27,12 @@ use triple::refusal::Refusal;
 pub enum TextAnswer {
     Fine,
     Fault(Refusal, usize),
+}
+
+// The lines of a text as its scan keeps them, and what its tests say.
+pub struct Reading {
+    pub lines: Lines,
+    pub answer: TextAnswer,
 }
 
 // The tests of a line, by the refusal that each gives.
@@ -197,18 +205,37 @@ fn test_lines(text: &[u8], lines: Lines) -> TextAnswer
     TextAnswer::Fine
 }
 
-// The tests 12 to 19 of a grammar text.
-pub fn test_text(text: &[u8]) -> TextAnswer
+// The tests 12 to 19 of a text that is scanned.
+fn test_scan(text: &[u8], found: Scan) -> TextAnswer
+    requires { ⌜ found ≡ scanOf (now text) ⌝ }
     ensures { λ a. ⌜ saidText a ≡ textTests (now (text .entry)) fine ⌝ }
 {
     if text.len() == 0 {
         return TextAnswer::Fault(Refusal::Shape, 0);
     }
-    let found = scan_text(text);
     let fault = found.fault;
     if fault != 0 {
         return TextAnswer::Fault(Refusal::Shape, fault);
     }
     let lines = found.lines;
     test_lines(text, lines)
+}
+
+// A text's lines, and what the tests 12 to 19 say of it: one scan for both.
+pub fn read_text(text: &[u8]) -> Reading
+    ensures { λ r. ⌜ (r .lines ≡ scanOf (now (text .entry)) .lines) × (saidText (r .answer) ≡ textTests (now (text .entry)) fine) ⌝ }
+{
+    let found = scan_text(text);
+    let lines = found.lines;
+    Reading {
+        lines,
+        answer: test_scan(text, found),
+    }
+}
+
+// The tests 12 to 19 of a grammar text.
+pub fn test_text(text: &[u8]) -> TextAnswer
+    ensures { λ a. ⌜ saidText a ≡ textTests (now (text .entry)) fine ⌝ }
+{
+    read_text(text).answer
 }

@@ -12,7 +12,9 @@ pub mod LeafLaws
 pub mod FrameLaws
 pub mod RowLaws
 pub mod StateLaws
-pub mod CompileLaws
+pub mod UnsplitLaws
+pub mod StateWriteLaws
+pub mod CompilerLaws
 pub mod CompileDetermined
 pub mod Front
 pub mod Compiled

@@ -18,9 +18,8 @@ use crate::states::splits;
 use crate::tokens::source_of;
 use crate::tokens::token_of;
 use grammar::lines::Lines;
-use grammar::lines::scan_text;
 use grammar::text::TextAnswer;
-use grammar::text::test_text;
+use grammar::text::read_text;
 use triple::refusal::Refusal;
 
 // The number of states; or a refusal from 12 to 20 with the number of the line at fault; or that the
@@ -113,10 +112,11 @@ fn compile_source(text: &[u8], source: Source, table: &mut [i32]) -> CompileAnsw
 pub fn compile_grammar(text: &[u8], table: &mut [i32]) -> CompileAnswer
     ensures { λ a. ⌜ (saidCompiled a ≡ compiledTo (now (text .entry)) (now (table .entry))) × (now (table .exit) ≡ afterCompile (now (text .entry)) (now (table .entry))) ⌝ }
 {
-    if let TextAnswer::Fault(e, line) = test_text(text) {
+    let read = read_text(text);
+    let answer = read.answer;
+    if let TextAnswer::Fault(e, line) = answer {
         return CompileAnswer::Fault(e, line);
     }
-    let found = scan_text(text);
-    let lines = found.lines;
+    let lines = read.lines;
     compile_source(text, source_of(lines), table)
 }
