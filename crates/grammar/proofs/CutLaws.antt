@@ -1,5 +1,4 @@
 -- A text cut into rows and a row into fields, in the form of what the code has in hand: the place of the next LF or space.
--- Assumes nothing.
 use mathlib.Core.Path.{_≡_, refl, sym, ap, _∙_, subst}
 use mathlib.Core.Bool.{Bool, true, false, not, cond, _&&_}
 use mathlib.Core.List.{List, [], _∷_, head-eq-of-cons-eq, tail-eq-of-cons-eq}
@@ -13,9 +12,9 @@ use lib.Seq.{drop-cons, length-take-le, drop-drop, getD-take, take-take}
 use borrow.Author.Tests.{eq-eqb, ne-eqb, not-true, not-false}
 use Rattle.whole.proofs.Bools.{both-left, both-right, is-true, from-true}
 use Rattle.grammar.specs.Texts.{Row, rowsOf, prefixed, grown, fieldsOf, shaped, Line, lineOf}
-use Rattle.grammar.proofs.ListLaws.{drop-take}
-use Rattle.grammar.specs.TextParts.{until, ended, Cut, Misshapen, Three, WholeRow, FirstRow}
-use Rattle.grammar.specs.declared.lines.Shape.{Shape}
+use Rattle.whole.proofs.Slices.{drop-take}
+use Rattle.grammar.specs.Inside.RowCuts.{until, ended, Cut, Misshapen, Three, WholeRow, FirstRow}
+use Rattle.grammar.specs.declared.scan.Shape.{Shape}
 
 span : (n most : ℕ) → (leb 1 n && leb n most) ≡ true → (1 ≤ n) × (n ≤ most)
 span n most e = let t = from-true e in (leb→le 1 n (both-left (leb 1 n) (leb n most) t), leb→le n most (both-right (leb 1 n) (leb n most) t))

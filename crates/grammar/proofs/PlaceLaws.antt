@@ -13,9 +13,10 @@ use borrow.Author.Tests.{leb-false}
 use Rattle.grammar.specs.declared.lines.Lines.{Lines}
 use Rattle.grammar.specs.Texts.{Row, rowsOf, shaped, Line, lineOf, linesOf}
 use Rattle.grammar.specs.Tests.{firstFrom, first, badShape}
-use Rattle.grammar.specs.Scans.{noLines, added, placed, scanOf}
-use Rattle.grammar.specs.TextParts.{lineAt, linesFrom, linesBy, Sized, ended, Cut, Room}
-use Rattle.grammar.proofs.TestLaws.{not-here}
+use Rattle.grammar.specs.Scans.{noLines, withLine, linesPlaced, scanOf}
+use Rattle.grammar.specs.Inside.Places.{lineAt, linesFrom, linesBy, Sized, LineRoom}
+use Rattle.grammar.specs.Inside.RowCuts.{ended, Cut}
+use Rattle.grammar.proofs.GoodLineLaws.{not-here}
 use Rattle.grammar.proofs.CutLaws.{shaped-first}
 
 -- ---- lines by their parts
@@ -54,7 +55,7 @@ at-most (a ∷ l) (suc i) v n (suc j) f h = at-most l i v n j (λ k. f (suc k)) 
 
 module _ (text : List ℕ) (ls : Lines) (eight : Eight ls) (few : ls .count < 8) (name rule long draw wide : ℕ) where
   abbrev more : Lines
-  more = added ls name rule long draw wide
+  more = withLine ls name rule long draw wide
 
   more-eight : Eight more
   more-eight = record {
@@ -124,7 +125,7 @@ module _ (text : List ℕ) (at : ℕ) {k n : ℕ} (cut : Cut (drop at text) k n)
   abbrev row : Row
   row = ended (take n (drop at text))
 
-  pub line-room : Room text at k n
+  pub line-room : LineRoom text at k n
   line-room = record { inside = omega (arith, cut .inside, length-drop at text); long = cut .long; rule-fits = cut .rule-fits; draw-fits = cut .draw-fits }
 
   line-is : record { name = getD text at 0; rule = take k (drop (at + 2) text); draw = take (n - (k + 3)) (drop (at + (k + 3)) text) } ≡ lineOf row
@@ -138,8 +139,8 @@ module _ (text : List ℕ) (at : ℕ) {k n : ℕ} (cut : Cut (drop at text) k n)
   rows-behind = ap rowsOf (drop-drop (suc n) at text ∙ ap (λ j. drop (at + j) text) (sym (add-one n)))
 
   -- it is placed by these numbers, and what is behind it from its LF on
-  pub placed-line : (ls : Lines) (rest : List Line) → placed ls at (lineOf row ∷ rest) ≡ placed (added ls (getD text at 0) (at + 2) k (at + (k + 3)) (n - (k + 3))) (at + (n + 1)) rest
-  unfolding placed
+  pub placed-line : (ls : Lines) (rest : List Line) → linesPlaced ls at (lineOf row ∷ rest) ≡ linesPlaced (withLine ls (getD text at 0) (at + 2) k (at + (k + 3)) (n - (k + 3))) (at + (n + 1)) rest
+  unfolding linesPlaced
   placed-line ls rest =
       let room = line-room in
       let rule-long : length (take k (drop (at + 2) text)) ≡ k = length-take-le k (drop (at + 2) text) (rw length-drop (omega arith)) in
@@ -147,13 +148,13 @@ module _ (text : List ℕ) (at : ℕ) {k n : ℕ} (cut : Cut (drop at text) k n)
       let next : at + (k + (n - (k + 3) + 4)) ≡ at + (n + 1) = omega arith in
       rw (← line-is, rule-long, draw-long, next) refl
 
-  placed-next : {ls : Lines} {lines : List Line} → ls .count < 8 → Places text ls lines → Places text (added ls (getD text at 0) (at + 2) k (at + (k + 3)) (n - (k + 3))) (lines ++ (lineOf row ∷ []))
+  placed-next : {ls : Lines} {lines : List Line} → ls .count < 8 → Places text ls lines → Places text (withLine ls (getD text at 0) (at + 2) k (at + (k + 3)) (n - (k + 3))) (lines ++ (lineOf row ∷ []))
   placed-next {ls} {lines} few so-far =
       let room = line-room in
       record {
         few = omega arith;
         are =
-            ap (λ j. linesFrom text (added ls (getD text at 0) (at + 2) k (at + (k + 3)) (n - (k + 3))) j 0) (add-one (ls .count))
+            ap (λ j. linesFrom text (withLine ls (getD text at 0) (at + 2) k (at + (k + 3)) (n - (k + 3))) j 0) (add-one (ls .count))
             ∙ more-lines text ls (so-far .eight) few (getD text at 0) (at + 2) k (at + (k + 3)) (n - (k + 3))
             ∙ (λ i. so-far .are i ++ (line-is i ∷ []));
         eight = more-eight text ls (so-far .eight) few (getD text at 0) (at + 2) k (at + (k + 3)) (n - (k + 3));
@@ -170,12 +171,12 @@ shape-passed before r t = go (leb 8 (length before)) (shaped r) refl refl t
     go false true p q t = (leb-false 8 (length before) p, q)
     go false false p q t = absurd t
 
-pub placed-none : (ls : Lines) (at : ℕ) → placed ls at [] ≡ ls
-unfolding placed
+pub placed-none : (ls : Lines) (at : ℕ) → linesPlaced ls at [] ≡ ls
+unfolding linesPlaced
 placed-none ls at = refl
 
 places-rows : (text : List ℕ) (rs before : List Row) {ls : Lines} {lines : List Line} (at : ℕ) → rowsOf (drop at text) ≡ rs → firstFrom badShape before rs ≡ 0 → length before ≡ ls .count
-    → Places text ls lines → Places text (placed ls at (map lineOf rs)) (lines ++ map lineOf rs)
+    → Places text ls lines → Places text (linesPlaced ls at (map lineOf rs)) (lines ++ map lineOf rs)
 places-rows text [] before {ls} at e none long so-far = rw (placed-none ls at, append-nil) so-far
 places-rows text (r ∷ rs) before {ls} {lines} at e none long so-far =
     let passed = not-here (badShape before r) (length before) _ none in

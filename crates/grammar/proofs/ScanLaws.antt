@@ -10,14 +10,14 @@ use lib.ListN.{length, getD, take, drop, length-drop, drop-of-length-le}
 use lib.Seq.{take-suc, take-all, length-take-le}
 use borrow.Author.Tests.{le-leb, lt-leb}
 use Rattle.grammar.specs.declared.lines.Lines.{Lines}
-use Rattle.grammar.specs.declared.lines.Scan.{Scan}
-use Rattle.grammar.specs.declared.lines.Shape.{Shape}
-use Rattle.grammar.specs.declared.lines.Scanner.{Scanner}
+use Rattle.grammar.specs.declared.scan.Shape.{Shape}
+use Rattle.grammar.specs.declared.scan.Scanner.{Scanner}
 use Rattle.grammar.specs.Texts.{Row, prefixed, rowsOf, shaped, Line, lineOf, linesOf}
 use Rattle.grammar.specs.Tests.{first, badShape}
-use Rattle.grammar.specs.Scans.{noLines, added, placed, unfaulted, scanOf}
-use Rattle.grammar.specs.TextParts.{ended, Cut, Misshapen, FirstRow, Room, rowAdded}
-use Rattle.grammar.proofs.ListLaws.{at-drop, take-map}
+use Rattle.grammar.specs.Scans.{noLines, withLine, linesPlaced, scanOf}
+use Rattle.grammar.specs.Inside.RowCuts.{ended, Cut, Misshapen, FirstRow}
+use Rattle.grammar.specs.Inside.Places.{LineRoom, rowAdded}
+use Rattle.whole.proofs.Slices.{at-drop, take-map}
 use Rattle.grammar.proofs.FirstLaws.{firstAt, first-next, first-here, first-none}
 use Rattle.grammar.proofs.PlaceLaws.{placed-none, placed-line, rows-behind, line-room}
 
@@ -38,7 +38,7 @@ some-row (b ∷ t) h = go (eqb b 10) (rowsOf t) refl
 
 -- ---- a row more
 module _ (text : List ℕ) (s : Scanner) (k n : ℕ) where
-  pub row-more : {ls : Lines} → ls ≡ added (s .lines) (getD text (s .at) 0) (s .at + 2) k (s .at + (k + 3)) (n - (k + 3)) → record { lines = ls; at = s .at + (n + 1) } ≡ rowAdded text s k n
+  pub row-more : {ls : Lines} → ls ≡ withLine (s .lines) (getD text (s .at) 0) (s .at + 2) k (s .at + (k + 3)) (n - (k + 3)) → record { lines = ls; at = s .at + (n + 1) } ≡ rowAdded text s k n
   row-more e = λ i. record { lines = e i; at = s .at + (n + 1) }
 
   pub row-less : s .at < length text → {next : Scanner} → next ≡ rowAdded text s k n → length text - next .at < length text - s .at
@@ -50,7 +50,7 @@ pub record Scanning (text : List ℕ) (s : Scanner) : Type 0 where
   pub few : s .lines .count ≤ 8
   pub rows : rowsOf (drop (s .at) text) ≡ drop (s .lines .count) (rowsOf text)
   pub fault : firstAt badShape (rowsOf text) (s .lines .count) ≡ first badShape (rowsOf text)
-  pub lines : (rest : List Line) → placed noLines 0 (map lineOf (take (s .lines .count) (rowsOf text)) ++ rest) ≡ placed (s .lines) (s .at) rest
+  pub lines : (rest : List Line) → linesPlaced noLines 0 (map lineOf (take (s .lines .count) (rowsOf text)) ++ rest) ≡ linesPlaced (s .lines) (s .at) rest
 
 pub scan-start : (text : List ℕ) {ls : Lines} → ls ≡ noLines → Scanning text record { lines = ls; at = 0 }
 scan-start text e = rw e record { within = omega arith; few = omega arith; rows = refl; fault = refl; lines = λ rest. refl }
@@ -70,8 +70,8 @@ module _ {text : List ℕ} {s : Scanner} (so-far : Scanning text s) where
   abbrev rs : List Row
   rs = rowsOf text
 
-  lines-are : ls ≡ placed noLines 0 (map lineOf (take (ls .count) rs))
-  lines-are = sym (ap (placed noLines 0) (sym (append-nil (map lineOf (take (ls .count) rs)))) ∙ so-far .lines [] ∙ placed-none ls at)
+  lines-are : ls ≡ linesPlaced noLines 0 (map lineOf (take (ls .count) rs))
+  lines-are = sym (ap (linesPlaced noLines 0) (sym (append-nil (map lineOf (take (ls .count) rs)))) ∙ so-far .lines [] ∙ placed-none ls at)
 
   -- there is a row more
   module _ {r : Row} {rest : List Row} (e : rowsOf (drop at text) ≡ r ∷ rest) where
@@ -86,7 +86,7 @@ module _ {text : List ℕ} {s : Scanner} (so-far : Scanning text s) where
     unfolding scanOf linesOf
     faulty b {k} k-is =
         let found : first badShape rs ≡ suc (ls .count) = sym (so-far .fault) ∙ first-here badShape rs (ls .count) r (next-row .0) (rw (next-row .1) b) ∙ add-one (ls .count) in
-        let kept : ls ≡ placed noLines 0 (take (ls .count) (map lineOf rs)) = lines-are ∙ ap (placed noLines 0) (sym (take-map lineOf (ls .count) rs)) in
+        let kept : ls ≡ linesPlaced noLines 0 (take (ls .count) (map lineOf rs)) = lines-are ∙ ap (linesPlaced noLines 0) (sym (take-map lineOf (ls .count) rs)) in
         rw (found, k-is, add-one) (λ i. record { lines = kept i; fault = suc (ls .count) })
 
   pub scan-ninth : at < length text → ls .count ≡ 8 → record { lines = ls; fault = 9 } ≡ scanOf text
@@ -104,7 +104,7 @@ module _ {text : List ℕ} {s : Scanner} (so-far : Scanning text s) where
       let none : drop (ls .count) rs ≡ [] = sym (so-far .rows) ∙ (rw (drop-of-length-le text {i = at} h) refl) in
       let all : length rs ≤ ls .count = omega (arith, ap length none, length-drop (ls .count) rs) in
       let found : first badShape rs ≡ 0 = sym (so-far .fault) ∙ first-none badShape rs (ls .count) all in
-      let kept : ls ≡ placed noLines 0 (map lineOf rs) = lines-are ∙ ap (λ l. placed noLines 0 (map lineOf l)) (take-all (ls .count) rs all) in
+      let kept : ls ≡ linesPlaced noLines 0 (map lineOf rs) = lines-are ∙ ap (λ l. linesPlaced noLines 0 (map lineOf l)) (take-all (ls .count) rs all) in
       rw found (λ i. record { lines = kept i; fault = 0 })
 
   pub scan-few : (ls .count ≡ 8 → ⊥) → ls .count < 8
@@ -128,7 +128,7 @@ module _ {text : List ℕ} {s : Scanner} (so-far : Scanning text s) where
         line-here : Cut (drop at text) k n
         line-here = subst (λ t. Cut t k n) e (subst (FirstRow t) g f)
 
-        pub scan-room : Room text at k n
+        pub scan-room : LineRoom text at k n
         scan-room = line-room text at line-here
 
         abbrev row : Row
@@ -147,7 +147,7 @@ module _ {text : List ℕ} {s : Scanner} (so-far : Scanning text s) where
               rows = sym (rows-behind text at line-here) ∙ sym (next .2) ∙ ap (λ j. drop j rs) (sym (add-one (ls .count)));
               fault = sym (first-next badShape rs (ls .count) row (next .0) (rw (next .1) fine)) ∙ so-far .fault;
               lines =
-                  λ rest. ap (placed noLines 0) (rw (add-one, last, map-append lineOf (take (ls .count) rs) (row ∷ []), append-assoc) refl) ∙ so-far .lines (lineOf row ∷ rest) ∙ placed-line text at line-here ls rest;
+                  λ rest. ap (linesPlaced noLines 0) (rw (add-one, last, map-append lineOf (take (ls .count) rs) (row ∷ []), append-assoc) refl) ∙ so-far .lines (lineOf row ∷ rest) ∙ placed-line text at line-here ls rest;
             }
 
 pub ruleset scanning = (row-more, row-less, scan-start, scan-ninth, scan-end, scan-few, scan-more, scan-other, scan-room, scan-next)

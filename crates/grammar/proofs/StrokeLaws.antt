@@ -1,5 +1,4 @@
 -- What holds of every stroke that is drawn: each is short, of whatever text; and each of an accepted text has a flavor, as test 17 lets no other letter into a draw.
--- Assumes nothing.
 use mathlib.Core.Path.{_≡_, refl, sym, subst}
 use mathlib.Core.Bool.{Bool, true, false, _&&_, _||_, cond}
 use mathlib.Core.List.{List, [], _∷_, _++_, List·Memᴰ}
@@ -25,7 +24,7 @@ use Rattle.grammar.proofs.Grammars as Grammars
 use Rattle.grammar.proofs.Grammars.{Grammar, grammarOf, Upright}
 use Rattle.grammar.proofs.GrammarLaws.{drawn-nil, drawn-left, drawn-right, drawn-letter, drawn-zero, drawn-suc}
 use Rattle.grammar.proofs.ReversalLaws.{Byte, plus, minus, big, small, other, byte, upper-big, upper-small, mirrored-big, mirrored-small, mirrored-other, reversed-cons, word-mirrored}
-use Rattle.grammar.proofs.TestLaws.{Good, good-lines}
+use Rattle.grammar.proofs.GoodLineLaws.{Good, good-lines}
 use Rattle.grammar.proofs.TokenLaws.{named, Motif, forward, backward, no-word, token-motif}
 
 -- ---- P holds of every letter of a word

@@ -1,9 +1,9 @@
--- Two results that the contract of `lines::scan_text`, of `text::read_text` or of `text::test_text` allows are the same: an answer is known by what it says.
+-- Two results that the contract of `scan::scan_text`, of `text::read_text` or of `text::test_text` allows are the same: an answer is known by what it says.
 use mathlib.Core.Path.{_≡_, refl, sym, ap, _∙_}
 use mathlib.Core.List.{List}
 use Prim.Native.Nat.{ℕ}
 use Rattle.triple.proofs.Determined.{one-to-one, determined, refusalOf, numbered}
-use Rattle.grammar.specs.declared.lines.Scan.{Scan}
+use Rattle.grammar.specs.declared.scan.Scan.{Scan}
 use Rattle.grammar.specs.declared.text.TextAnswer.{TextAnswer}
 use Rattle.grammar.specs.declared.text.Reading.{Reading}
 use Rattle.grammar.specs.Scans.{scanOf}

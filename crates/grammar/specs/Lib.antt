@@ -4,7 +4,6 @@ pub mod Curves
 pub mod Tests
 pub mod WordAnswers
 pub mod Books
-pub mod Ways
 pub mod TextAnswers
 pub mod Scans
-pub mod TextParts
+pub mod Inside

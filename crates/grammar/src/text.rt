@@ -6,17 +6,18 @@ ghost use lib.ListN.{take};
 ghost use Rattle.grammar.specs.Tests.{first, badMotif, badRule, badCount, badHeading, badDraw, badTurns, badNet, lineTests, textTests, fine};
 ghost use Rattle.grammar.specs.Scans.{scanOf};
 ghost use Rattle.grammar.specs.TextAnswers.{saidText};
-ghost use Rattle.grammar.specs.TextParts.{lineAt, linesBy, linesFrom, Sized, testOf};
+ghost use Rattle.grammar.specs.Inside.Places.{lineAt, linesBy, linesFrom, Sized};
+ghost use Rattle.grammar.specs.Inside.LineTests.{testOf};
 use crate::lines::Lines;
-use crate::lines::Scan;
 use crate::lines::draw_of;
 use crate::lines::is_named;
-use crate::lines::rule_book;
 use crate::lines::rule_of;
-use crate::lines::scan_text;
 use crate::nets::drawn_end;
 use crate::nets::is_twice;
-use crate::nets::passed;
+use crate::nets::ruled;
+use crate::nets::ruled_end;
+use crate::scan::Scan;
+use crate::scan::scan_text;
 use crate::tally::draw_word;
 use crate::tally::rule_word;
 use crate::word::least;
@@ -127,14 +128,11 @@ fn bad_net(text: &[u8], lines: Lines, i: usize) -> bool
 {
     let names = lines.name;
     let motif = [names[i]; 1];
-    let mut once = [0u8; 24];
-    let n = passed(text, rule_book(lines), &motif, &mut once);
-    let word = word_at(&once, 0, n);
+    let mut rule = [0u8; 24];
+    let n = ruled(text, lines, &motif, &mut rule);
+    let word = word_at(&rule, 0, n);
     let one = drawn_end(text, lines, word);
-    let mut twice = [0u8; 576];
-    let m = passed(text, rule_book(lines), word, &mut twice);
-    let two = drawn_end(text, lines, word_at(&twice, 0, m));
-    !is_twice(two, one)
+    !is_twice(ruled_end(text, lines, word), one)
 }
 
 // Whether line i is at fault by a test.

@@ -24,7 +24,7 @@ use Rattle.turtle.specs.Plane.{ab, origin, _⊕_, thrice, signed, flipped}
 use Rattle.turtle.specs.Corners.{tripleOf}
 use Rattle.turtle.specs.Answers.{saidTriple}
 use Rattle.turtle.proofs.CornerLaws.{Within, triple, triple-is, pair-is}
-use Rattle.grammar.specs.Curves.{place, tokenOf}
+use Rattle.grammar.specs.Curves.{placeIn, tokenOf}
 use Rattle.tables.specs.Children.{child, offset, leaf}
 use Rattle.tables.specs.Table.{stateOf, flavorNumber}
 use Rattle.tables.specs.Descent.{childAt, offsetAt, sumAt, flavorAt}
@@ -50,7 +50,7 @@ pub axiom-token : (o : ℕ) → axiomState o / 2 ≡ tokenOf a5 (axiomOf o)
 unfolding axiomState axiomOf tokenOf
 axiom-token o = rw tokens-are (go (leb o 1) (leb o 3))
   where
-    go : (a b : Bool) → cond a 0 (cond b 4 2) / 2 ≡ place bytes (cond a 65 (cond b 67 66))
+    go : (a b : Bool) → cond a 0 (cond b 4 2) / 2 ≡ placeIn bytes (cond a 65 (cond b 67 66))
     go true b = refl
     go false true = refl
     go false false = refl

@@ -14,8 +14,8 @@ use Rattle.turtle.specs.Corners.{cornerSum, candidate, has, tripleOf}
 use Rattle.grammar.specs.Words.{upper, mirrored, reversed, wordOf, expandOnce}
 use Rattle.grammar.specs.Texts.{rowsOf, fieldsOf, lineOf, linesOf}
 use Rattle.grammar.specs.Curves as Curves
-use Rattle.grammar.specs.Curves.{passes, strokes, drawing, net, tokenBytes, letterOf, tokenOf, childrenOf}
-use Rattle.tables.specs.Children.{met, children, offsetAfter, offset, leaves}
+use Rattle.grammar.specs.Curves.{passes, strokes, drawing, net, tokenBytes, letterOf, tokenOf, ruleSymbols}
+use Rattle.tables.specs.Children.{childrenAlong, children, offsetAfter, offset, leaves}
 use Rattle.nodes.specs.declared.Node.{Node}
 use Rattle.nodes.specs.declared.ChildStep.{ChildStep}
 use Rattle.a5.specs.A5.{a5Text, a5}
@@ -38,7 +38,7 @@ pub step-examples :
     × (childOf 4 2 (nodeAt 4 1 2) 1 ≡ step (negsuc 0) (pos 2) (pos 0) 3 (nodeWith 1 1 (fin true 1 (pos 4)) (fin false 3 (pos 3))))
     × (nodeOf 0 2 (triple (negsuc 0) (pos 2) (pos 0)) ≡ told (record { position = record { s = 6; flavor = 3 }; node = nodeAt 0 2 6 }))
     × (nodeOf 2 0 (triple (pos 0) (pos 0) (pos 0)) ≡ told (record { position = record { s = 0; flavor = 2 }; node = axiomNode 2 }))
-unfolding numberOf inBounds origin neg _⊕_ thrice signed facing flipped rot rots far toggled letters strokeOf symbolOf symbolsOf move corner turnedFlavor cell cells final cornerSum candidate has tripleOf upper mirrored reversed wordOf expandOnce rowsOf fieldsOf lineOf linesOf Curves.childOf passes strokes drawing net tokenBytes letterOf tokenOf childrenOf met children offsetAfter offset leaves a5Text a5 axiomOf isBackward isShifted placeOf drawnCell shifted named cellAt cellOf seek positionOf goodPosition goodNode spot node axiomNode digitOf childCell below childOf nodeAt nodeOf ofInt toSigned
+unfolding numberOf inBounds origin neg _⊕_ thrice signed facing flipped rot rots far toggled letters strokeOf symbolOf symbolsOf move corner turnedFlavor cell cells final cornerSum candidate has tripleOf upper mirrored reversed wordOf expandOnce rowsOf fieldsOf lineOf linesOf Curves.ruleSymbol passes strokes drawing net tokenBytes letterOf tokenOf ruleSymbols childrenAlong children offsetAfter offset leaves a5Text a5 axiomOf isBackward isShifted placeOf drawnCell shifted named cellAt cellOf seek positionOf goodPosition goodNode spot node axiomNode digitOf childCell below childOf nodeAt nodeOf ofInt toSigned
 step-examples = (refl, refl, refl, refl, refl)
 
 abbrev zeroAt : Float
@@ -59,5 +59,5 @@ pub refused-steps :
     × (childOf 0 1 (nodeWith 0 0 zeroAt (fin true 1 (pos 36))) 4 ≡ refused 8)
     × (childOf 0 1 (nodeWith 0 0 zeroAt (fin true 1 (pos 36))) 0 ≡ refused 5)
     × (childOf 0 1 (nodeWith 0 0 zeroAt (fin true 1 (pos 2))) 0 ≡ refused 5)
-unfolding numberOf inBounds origin neg _⊕_ thrice signed facing flipped rot rots far toggled letters strokeOf symbolOf symbolsOf move corner turnedFlavor cell cells final cornerSum candidate has tripleOf upper mirrored reversed wordOf expandOnce rowsOf fieldsOf lineOf linesOf Curves.childOf passes strokes drawing net tokenBytes letterOf tokenOf childrenOf met children offsetAfter offset leaves a5Text a5 axiomOf isBackward isShifted shifted named goodPosition goodNode spot node digitOf childCell below childOf ofInt toSigned
+unfolding numberOf inBounds origin neg _⊕_ thrice signed facing flipped rot rots far toggled letters strokeOf symbolOf symbolsOf move corner turnedFlavor cell cells final cornerSum candidate has tripleOf upper mirrored reversed wordOf expandOnce rowsOf fieldsOf lineOf linesOf Curves.ruleSymbol passes strokes drawing net tokenBytes letterOf tokenOf ruleSymbols childrenAlong children offsetAfter offset leaves a5Text a5 axiomOf isBackward isShifted shifted named goodPosition goodNode spot node digitOf childCell below childOf ofInt toSigned
 refused-steps = (refl, refl, refl, refl, refl, refl, refl, refl, refl, refl, refl, refl, refl)

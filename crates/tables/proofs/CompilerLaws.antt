@@ -2,7 +2,7 @@
 use mathlib.Core.Path.{_≡_, refl, sym, ap, _∙_, subst}
 use mathlib.Core.Bool.{Bool, true, false, cond}
 use mathlib.Core.List.{List, [], _∷_, _++_, map, List·Memᴰ, List·Memᴰ·head}
-use Prim.Native.Nat.{ℕ, zero, suc, _*_, _<_, _≤_}
+use Prim.Native.Nat.{ℕ, _*_, _<_, _≤_}
 use native.Mathlib.Omega.{arith}
 use lib.Dec.{ltb}
 use lib.IntN.{ℤ}
@@ -18,18 +18,18 @@ use Rattle.grammar.specs.Curves.{tokenBytes}
 use Rattle.grammar.specs.Scans.{scanOf}
 use Rattle.grammar.specs.Tests.{Verdict, fine, fault, first, faultAt, lineTests, someRows, textTests}
 use Rattle.grammar.specs.TextAnswers.{saidText}
-use Rattle.grammar.specs.TextParts.{linesBy, Sized}
-use Rattle.grammar.proofs.AnswerLaws.{stopped}
+use Rattle.grammar.specs.Inside.Places.{linesBy, Sized}
+use Rattle.grammar.proofs.TestOrderLaws.{stopped}
 use Rattle.grammar.proofs.DecidedLaws.{fine-passes, fault-stops}
 use Rattle.grammar.proofs.PlaceLaws.{Places, places-lines, scan-places}
 use Rattle.grammar.proofs.ReversalLaws.{is-big}
-use Rattle.grammar.proofs.TestLaws.{good-lines, rows-fine}
+use Rattle.grammar.proofs.GoodLineLaws.{good-lines, rows-fine}
 use Rattle.grammar.proofs.TokenLaws.{forward, token-below}
 use Rattle.tables.specs.declared.Source.{Source}
 use Rattle.tables.specs.Compiler.{states, faulty, refused, compiledTo, afterCompile, tableFor, unless}
-use Rattle.tables.specs.Sources.{lettersIn, Holds, Ready}
+use Rattle.tables.specs.Inside.Sources.{lettersIn, Holds, Ready}
 use Rattle.tables.specs.Verdicts.{badSplit, splitTests, verdict}
-use Rattle.tables.proofs.MeetingLaws.{length-letters}
+use Rattle.tables.proofs.RuleChildLaws.{length-letters}
 use Rattle.tables.proofs.StateWriteLaws.{table-long}
 use Rattle.tables.proofs.UnsplitLaws.{named-member}
 

@@ -16,19 +16,19 @@ use Rattle.grammar.specs.Texts.{Line, linesOf}
 use Rattle.grammar.specs.Curves.{tokenBytes}
 use Rattle.tables.specs.declared.Source.{Source}
 use Rattle.tables.specs.Compiler.{tableFor}
-use Rattle.tables.specs.Sources.{Ready}
-use Rattle.tables.specs.Table.{upTo, row, tableOf}
+use Rattle.tables.specs.Inside.Sources.{Ready}
+use Rattle.tables.specs.Table.{upTo, stateRow, tableOf}
 use Rattle.tables.proofs.Entries.{length-upTo, length-row, length-table}
-use Rattle.tables.proofs.MeetingLaws.{length-letters}
+use Rattle.tables.proofs.RuleChildLaws.{length-letters}
 
 -- ---- state after state
 abbrev pub rowAt : List Line → ℕ → List ℤ
-rowAt ls k = row ls (k / 2) (eqb (k % 2) 1)
+rowAt ls k = stateRow ls (k / 2) (eqb (k % 2) 1)
 
 length-rows : (ls : List Line) (k : ℕ) → length (upTo (rowAt ls) k) ≡ k * 41
 length-rows ls k = length-upTo (rowAt ls) 41 (λ i. length-row ls (i / 2) (eqb (i % 2) 1)) k
 
-table-is : (ls : List Line) (n : ℕ) → upTo (rowAt ls) (2 * n) ≡ upTo (λ m. row ls m false ++ row ls m true) n
+table-is : (ls : List Line) (n : ℕ) → upTo (rowAt ls) (2 * n) ≡ upTo (λ m. stateRow ls m false ++ stateRow ls m true) n
 table-is ls zero = refl
 table-is ls (suc n) =
     let k : 2 * suc n ≡ suc (suc (2 * n)) = omega arith in
@@ -36,7 +36,7 @@ table-is ls (suc n) =
     let half : suc (2 * n) / 2 ≡ n = omega arith in
     let low : 2 * n % 2 ≡ 0 = omega arith in
     let odd : suc (2 * n) % 2 ≡ 1 = omega arith in
-    rw (k, table-is ls n, even, half, low, odd) (append-assoc (upTo (λ m. row ls m false ++ row ls m true) n) (row ls n false) (row ls n true))
+    rw (k, table-is ls n, even, half, low, odd) (append-assoc (upTo (λ m. stateRow ls m false ++ stateRow ls m true) n) (stateRow ls n false) (stateRow ls n true))
 
 pub table-long : {text : List ℕ} {s : Source} → Ready text s → length (tableFor text) ≡ 82 * s .count
 table-long {text} r = omega (arith, length-table (linesOf text), length-letters r)

@@ -13,19 +13,19 @@ use mir.Val.{Fits}
 use borrow.Author.Tests.{not-true, not-false, eqb-false}
 use Rattle.whole.proofs.Lists.{member-at}
 use Rattle.grammar.specs.Texts.{Line, linesOf}
-use Rattle.grammar.specs.Curves.{isNamed, place, tokenOf}
+use Rattle.grammar.specs.Curves.{isNamed, placeIn, tokenOf}
 use Rattle.grammar.specs.Tests.{fine, first}
-use Rattle.grammar.specs.TextParts.{lineAt, linesBy}
-use Rattle.grammar.proofs.AnswerLaws.{line-of}
+use Rattle.grammar.specs.Inside.Places.{lineAt, linesBy}
+use Rattle.grammar.proofs.TestOrderLaws.{line-of}
 use Rattle.grammar.proofs.FirstLaws.{firstAt, first-next, first-here, first-none}
 use Rattle.grammar.proofs.PlaceLaws.{length-lines}
 use Rattle.grammar.proofs.ReversalLaws.{is-big, mirrored-big}
-use Rattle.grammar.proofs.TestLaws.{good-lines}
+use Rattle.grammar.proofs.GoodLineLaws.{good-lines}
 use Rattle.grammar.proofs.TokenLaws.{Motif, forward, backward, token-below}
 use Rattle.tables.specs.declared.Source.{Source}
-use Rattle.tables.specs.Sources.{lettersIn, Ready}
+use Rattle.tables.specs.Inside.Sources.{lettersIn, Ready}
 use Rattle.tables.specs.Verdicts.{splits, badSplit}
-use Rattle.tables.proofs.MeetingLaws.{length-letters}
+use Rattle.tables.proofs.RuleChildLaws.{length-letters}
 
 -- ---- a line's two tokens
 pub named-member : (ls : List Line) (l : Line) → List·Memᴰ l ls → T (isNamed ls (l .name))
@@ -67,22 +67,22 @@ module _ {text : List ℕ} {s : Source} (r : Ready text s) (i : ℕ) (h : i < mi
   lower-motif : Motif ls (l .name + 32)
   lower-motif = subst (Motif ls) (mirrored-big (l .name) (big .0) (big .1)) (backward (l .name) (named-member ls l member) (big .0) (big .1))
 
-  token-is : (b : ℕ) {n : ℕ} → n ≡ place (lettersIn s) b → n ≡ tokenOf ls b
+  token-is : (b : ℕ) {n : ℕ} → n ≡ placeIn (lettersIn s) b → n ≡ tokenOf ls b
   unfolding tokenOf
-  token-is b e = e ∙ ap (λ k. place k b) (r .tokens)
+  token-is b e = e ∙ ap (λ k. placeIn k b) (r .tokens)
 
-  pub upper-below : {n : ℕ} → n ≡ place (lettersIn s) (l .name) → n < s .count
+  pub upper-below : {n : ℕ} → n ≡ placeIn (lettersIn s) (l .name) → n < s .count
   upper-below e = rw (token-is (l .name) e, length-letters r) (token-below upper-motif)
 
-  pub lower-below : {n : ℕ} → n ≡ place (lettersIn s) (l .name + 32) → n < s .count
+  pub lower-below : {n : ℕ} → n ≡ placeIn (lettersIn s) (l .name + 32) → n < s .count
   lower-below e = rw (token-is (l .name + 32) e, length-letters r) (token-below lower-motif)
 
-  module _ {n : ℕ} (e : n ≡ place (lettersIn s) (l .name)) {a : Bool} (f : a ≡ splits ls n) where
+  module _ {n : ℕ} (e : n ≡ placeIn (lettersIn s) (l .name)) {a : Bool} (f : a ≡ splits ls n) where
     pub split-bad : not a ≡ true → true ≡ badSplit ls l
     unfolding badSplit
     split-bad y = let z : splits ls (tokenOf ls (l .name)) ≡ false = ap (splits ls) (sym (token-is (l .name) e)) ∙ sym f ∙ not-true a y in rw z refl
 
-    pub split-last : not a ≡ false → {m : ℕ} → m ≡ place (lettersIn s) (l .name + 32) → {b : Bool} → b ≡ splits ls m → not b ≡ badSplit ls l
+    pub split-last : not a ≡ false → {m : ℕ} → m ≡ placeIn (lettersIn s) (l .name + 32) → {b : Bool} → b ≡ splits ls m → not b ≡ badSplit ls l
     unfolding badSplit
     split-last y g {b} k =
         let z : splits ls (tokenOf ls (l .name)) ≡ true = ap (splits ls) (sym (token-is (l .name) e)) ∙ sym f ∙ not-false a y in

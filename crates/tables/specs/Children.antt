@@ -12,18 +12,18 @@ use Rattle.turtle.specs.Walk.{Sym, left, right, letter, turtle, cells}
 use Rattle.grammar.specs.Words.{wordOf}
 use Rattle.grammar.specs.Texts.{Line}
 use Rattle.tables.specs.declared.Child.{Child}
-use Rattle.grammar.specs.Curves.{rules, strokes, net, letterOf, childrenOf}
+use Rattle.grammar.specs.Curves.{rules, strokes, net, letterOf, ruleSymbols}
 
 -- the children along a rule: each at heading 0, or flipped: at heading 3
-unfoldable pub met : ℕ → List (Sym ℕ) → List Child
-met h [] = []
-met h (left ∷ w) = met ((h + 1) % 6) w
-met h (right ∷ w) = met ((h + 5) % 6) w
-met h (letter m ∷ w) = record { token = m; flip = eqb h 3 } ∷ met h w
+unfoldable pub childrenAlong : ℕ → List (Sym ℕ) → List Child
+childrenAlong h [] = []
+childrenAlong h (left ∷ w) = childrenAlong ((h + 1) % 6) w
+childrenAlong h (right ∷ w) = childrenAlong ((h + 5) % 6) w
+childrenAlong h (letter m ∷ w) = record { token = m; flip = eqb h 3 } ∷ childrenAlong h w
 
 -- those of a token, in the order of its rule, which is reversed for a lowercase one
 unfoldable pub children : List Line → ℕ → List Child
-children ls m = met 0 (childrenOf ls (wordOf (rules ls) (letterOf ls m)))
+children ls m = childrenAlong 0 (ruleSymbols ls (wordOf (rules ls) (letterOf ls m)))
 
 abbrev pub noChild : Child
 noChild = record { token = 0; flip = false }

@@ -1,4 +1,5 @@
 pub mod PlaneLaws
+pub mod EqualLaws
 pub mod WordLaws
 pub mod SymbolLaws
 pub mod LetterLaws

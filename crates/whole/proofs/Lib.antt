@@ -3,6 +3,7 @@ pub mod Parts
 pub mod View
 pub mod Ring
 pub mod TestLaws
+pub mod Equals
 pub mod Claims
 pub mod Arms
 pub mod Powers
@@ -11,3 +12,4 @@ pub mod Fractions
 pub mod Floats
 pub mod Lists
 pub mod Fill
+pub mod Slices

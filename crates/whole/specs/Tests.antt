@@ -12,3 +12,7 @@ pub data Test : Type 0 where
 abbrev pub pass : List Test → Bool
 pass [] = true
 pass ((a ≤? b) ∷ l) = leZ a b && pass l
+
+-- whether two whole numbers are the same
+abbrev pub equal : ℤ → ℤ → Bool
+equal x y = leZ x y && leZ y x

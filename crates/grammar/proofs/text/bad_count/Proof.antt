@@ -1,5 +1,5 @@
 -- `text::bad_count` is test 15.
-use Rattle.grammar.specs.TextParts.{lineAt, linesBy}
+use Rattle.grammar.specs.Inside.Places.{lineAt, linesBy}
 use Rattle.grammar.proofs.VerdictLaws.{count-verdict}
 use borrow.Author.Needs.{needs}
 use Rattle.grammar.proofs.text.bad_count.Statement.{statement}

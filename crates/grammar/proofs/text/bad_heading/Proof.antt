@@ -1,5 +1,5 @@
 -- `text::bad_heading` is test 16: the rule, and then its reverse.
-use Rattle.grammar.specs.TextParts.{lineAt, linesBy}
+use Rattle.grammar.specs.Inside.Places.{lineAt, linesBy}
 use Rattle.grammar.proofs.VerdictLaws.{heading-along, heading-back}
 use borrow.Author.Needs.{needs}
 use Rattle.grammar.proofs.text.bad_heading.Statement.{statement}

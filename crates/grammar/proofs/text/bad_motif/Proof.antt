@@ -1,6 +1,6 @@
 -- `text::bad_motif` is test 13: by the letter's range, the five that are not free, and the lines before.
 use native.Mathlib.Omega.{arith}
-use Rattle.grammar.specs.TextParts.{lineAt, linesFrom}
+use Rattle.grammar.specs.Inside.Places.{lineAt, linesFrom}
 use Rattle.grammar.proofs.VerdictLaws.{motif-low, motif-high, motif-reserved, motif-named, named-before}
 use borrow.Author.Needs.{needs}
 use Rattle.grammar.proofs.text.bad_motif.Statement.{statement}

@@ -1,5 +1,5 @@
 -- `text::bad_rule` is test 14.
-use Rattle.grammar.specs.TextParts.{lineAt, linesBy}
+use Rattle.grammar.specs.Inside.Places.{lineAt, linesBy}
 use Rattle.grammar.proofs.VerdictLaws.{rule-verdict}
 use borrow.Author.Needs.{needs}
 use Rattle.grammar.proofs.text.bad_rule.Statement.{statement}

@@ -1,5 +1,5 @@
 -- `text::bad_turns` is test 18: the rule, and then the draw.
-use Rattle.grammar.specs.TextParts.{lineAt, linesBy}
+use Rattle.grammar.specs.Inside.Places.{lineAt, linesBy}
 use Rattle.grammar.proofs.VerdictLaws.{turns-rule, turns-draw}
 use borrow.Author.Needs.{needs}
 use Rattle.grammar.proofs.text.bad_turns.Statement.{statement}

@@ -4,9 +4,10 @@ use Prim.Native.Nat.{_-_}
 use native.Mathlib.Omega.{arith}
 use borrow.Author.Needs.{needs}
 use Rattle.grammar.specs.Tests.{first}
-use Rattle.grammar.specs.TextParts.{linesBy, testOf}
+use Rattle.grammar.specs.Inside.Places.{linesBy}
+use Rattle.grammar.specs.Inside.LineTests.{testOf}
 use Rattle.grammar.proofs.FirstLaws.{firstAt}
-use Rattle.grammar.proofs.AnswerLaws.{seek-none, seek-here, seek-next}
+use Rattle.grammar.proofs.TestOrderLaws.{seek-none, seek-here, seek-next}
 use Rattle.grammar.proofs.text.first_bad.Statement.{statement}
 use Rattle.grammar.proofs.text.first_bad.Tie as tie
 

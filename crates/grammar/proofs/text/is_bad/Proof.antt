@@ -1,6 +1,6 @@
 -- `text::is_bad` is the test that is asked for.
 use native.Mathlib.Omega.{arith}
-use Rattle.grammar.proofs.AnswerLaws.{lines-before}
+use Rattle.grammar.proofs.TestOrderLaws.{lines-before}
 use borrow.Author.Needs.{needs}
 use Rattle.grammar.proofs.text.is_bad.Statement.{statement}
 use Rattle.grammar.proofs.text.is_bad.Tie as tie

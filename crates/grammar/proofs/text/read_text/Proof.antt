@@ -1,5 +1,5 @@
 -- `text::read_text` keeps the scan's lines, and tests the scan.
-use Rattle.grammar.proofs.AnswerLaws.{lines-kept}
+use Rattle.grammar.proofs.TestOrderLaws.{lines-kept}
 use borrow.Author.Needs.{needs}
 use Rattle.grammar.proofs.text.read_text.Statement.{statement}
 use Rattle.grammar.proofs.text.read_text.Tie as tie

@@ -1,6 +1,6 @@
 -- `text::test_lines` is the tests 13 to 19 in their order.
 use Rattle.triple.specs.Refusals.{numberOf}
-use Rattle.grammar.proofs.AnswerLaws.{order}
+use Rattle.grammar.proofs.TestOrderLaws.{order}
 use borrow.Author.Needs.{needs}
 use Rattle.grammar.proofs.text.test_lines.Statement.{statement}
 use Rattle.grammar.proofs.text.test_lines.Tie as tie

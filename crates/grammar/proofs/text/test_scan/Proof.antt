@@ -1,6 +1,6 @@
 -- `text::test_scan` is the tests 12 to 19: the scan's, and then those of the lines.
 use Rattle.triple.specs.Refusals.{numberOf}
-use Rattle.grammar.proofs.AnswerLaws.{scanned-text}
+use Rattle.grammar.proofs.TestOrderLaws.{scanned-text}
 use borrow.Author.Needs.{needs}
 use Rattle.grammar.proofs.text.test_scan.Statement.{statement}
 use Rattle.grammar.proofs.text.test_scan.Tie as tie

@@ -4,8 +4,8 @@ use borrow.Author.Needs.{needs}
 use Rattle.tables.proofs.compiler.write_state.Statement.{statement}
 use Rattle.tables.proofs.compiler.write_state.Tie as tie
 
-numbers-of-requires : tie.Need-numbers-of-requires
-numbers-of-requires c κs = search needs
+parts-of-requires : tie.Need-parts-of-requires
+parts-of-requires c κs = search needs
 
 write-numbers-requires : tie.Need-write-numbers-requires
 write-numbers-requires c κs = search needs
@@ -18,4 +18,4 @@ returns c = search (needs, writing)
 
 pub write-state-spec : {M : Type 1} → statement M
 write-state-spec =
-    tie.close (tie.spec numbers-of-requires write-numbers-requires same-length returns)
+    tie.close (tie.spec parts-of-requires write-numbers-requires same-length returns)
