@@ -9,7 +9,7 @@ use native.Mathlib.Omega.{arith}
 use lib.ListN.{length, getD, take}
 use Rattle.grammar.specs.declared.lines.Lines.{Lines}
 use Rattle.grammar.specs.declared.lines.Scan.{Scan}
-use Rattle.grammar.specs.declared.text.Test.{Test}
+use Rattle.grammar.specs.declared.tests.Test.{Test}
 use Rattle.grammar.specs.Texts.{rowsOf, Line, linesOf}
 use Rattle.grammar.specs.Tests.{Verdict, fine, fault, first, faultAt, badShape, badMotif, badRule, badCount, badHeading, badDraw, badTurns, badNet, lineTests, someRows, textTests}
 use Rattle.grammar.specs.TextParts.{lineAt, linesFrom, linesBy, Scanned, testOf}

@@ -4,7 +4,7 @@ use mathlib.Core.Path.{_≡_, refl, ap}
 use mathlib.Core.List.{List}
 use Prim.Native.Nat.{ℕ}
 use Rattle.triple.proofs.Determined.{one-to-one, determined, refusalOf, numbered}
-use Rattle.grammar.specs.declared.text.TextAnswer.{TextAnswer}
+use Rattle.grammar.specs.declared.tests.TextAnswer.{TextAnswer}
 use Rattle.grammar.specs.Tests.{Verdict, fine, fault, textTests}
 use Rattle.grammar.specs.TextAnswers.{saidText}
 

@@ -17,7 +17,7 @@ use Rattle.grammar.specs.declared.lines.Scan.{Scan}
 use Rattle.grammar.specs.declared.lines.Shape.{Shape}
 use Rattle.grammar.specs.declared.tally.Kind.{Kind}
 use Rattle.grammar.specs.declared.tally.Tally.{Tally}
-use Rattle.grammar.specs.declared.text.Test.{Test}
+use Rattle.grammar.specs.declared.tests.Test.{Test}
 
 -- how many elements stand before the first b; all of them where there is none
 unfoldable pub until : ℕ → List ℕ → ℕ

@@ -5,5 +5,5 @@
 pub mod lines;
 mod nets;
 mod tally;
-pub mod text;
+pub mod tests;
 pub mod word;

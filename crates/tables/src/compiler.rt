@@ -19,8 +19,8 @@ use crate::tokens::source_of;
 use crate::tokens::token_of;
 use grammar::lines::Lines;
 use grammar::lines::scan_text;
-use grammar::text::TextAnswer;
-use grammar::text::test_text;
+use grammar::tests::TextAnswer;
+use grammar::tests::test_text;
 use triple::refusal::Refusal;
 
 // The number of states; or a refusal from 12 to 20 with the number of the line at fault; or that the

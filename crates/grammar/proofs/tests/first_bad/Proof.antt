@@ -7,8 +7,8 @@ use Rattle.grammar.specs.Tests.{first}
 use Rattle.grammar.specs.TextParts.{linesBy, testOf}
 use Rattle.grammar.proofs.FirstLaws.{firstAt}
 use Rattle.grammar.proofs.AnswerLaws.{seek-none, seek-here, seek-next}
-use Rattle.grammar.proofs.text.first_bad.Statement.{statement}
-use Rattle.grammar.proofs.text.first_bad.Tie as tie
+use Rattle.grammar.proofs.tests.first_bad.Statement.{statement}
+use Rattle.grammar.proofs.tests.first_bad.Tie as tie
 
 abbrev Inv-loop : tie.InvT-loop
 Inv-loop text lines test rows i₀ i = firstAt (testOf (linesBy text lines) test) (linesBy text lines) i ≡ first (testOf (linesBy text lines) test) (linesBy text lines)

@@ -1,8 +1,8 @@
 -- `text::bad_draw` is test 17: the bytes, and then the count.
 use Rattle.grammar.proofs.VerdictLaws.{draw-unlawful, draw-count}
 use borrow.Author.Needs.{needs}
-use Rattle.grammar.proofs.text.bad_draw.Statement.{statement}
-use Rattle.grammar.proofs.text.bad_draw.Tie as tie
+use Rattle.grammar.proofs.tests.bad_draw.Statement.{statement}
+use Rattle.grammar.proofs.tests.bad_draw.Tie as tie
 
 draw-of-requires : tie.Need-draw-of-requires
 draw-of-requires c κs = search needs

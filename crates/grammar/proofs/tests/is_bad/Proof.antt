@@ -2,8 +2,8 @@
 use native.Mathlib.Omega.{arith}
 use Rattle.grammar.proofs.AnswerLaws.{lines-before}
 use borrow.Author.Needs.{needs}
-use Rattle.grammar.proofs.text.is_bad.Statement.{statement}
-use Rattle.grammar.proofs.text.is_bad.Tie as tie
+use Rattle.grammar.proofs.tests.is_bad.Statement.{statement}
+use Rattle.grammar.proofs.tests.is_bad.Tie as tie
 
 enum-told : tie.Need-enum-told
 enum-told c = search needs

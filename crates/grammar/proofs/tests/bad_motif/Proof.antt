@@ -3,8 +3,8 @@ use native.Mathlib.Omega.{arith}
 use Rattle.grammar.specs.TextParts.{lineAt, linesFrom}
 use Rattle.grammar.proofs.VerdictLaws.{motif-low, motif-high, motif-reserved, motif-named, named-before}
 use borrow.Author.Needs.{needs}
-use Rattle.grammar.proofs.text.bad_motif.Statement.{statement}
-use Rattle.grammar.proofs.text.bad_motif.Tie as tie
+use Rattle.grammar.proofs.tests.bad_motif.Statement.{statement}
+use Rattle.grammar.proofs.tests.bad_motif.Tie as tie
 
 array-read-b : tie.Need-array-read-b
 array-read-b c = search needs

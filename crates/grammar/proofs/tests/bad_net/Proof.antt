@@ -5,8 +5,8 @@ use lib.ListN.{getD}
 use Rattle.grammar.specs.TextParts.{lineAt, linesBy}
 use Rattle.grammar.proofs.NetLaws.{rule-room, rule-word, rule-long, net-verdict}
 use borrow.Author.Needs.{needs}
-use Rattle.grammar.proofs.text.bad_net.Statement.{statement}
-use Rattle.grammar.proofs.text.bad_net.Tie as tie
+use Rattle.grammar.proofs.tests.bad_net.Statement.{statement}
+use Rattle.grammar.proofs.tests.bad_net.Tie as tie
 
 array-read-t15 : tie.Need-array-read-t15
 array-read-t15 c = search needs

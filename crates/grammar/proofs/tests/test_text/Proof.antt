@@ -2,8 +2,8 @@
 use Rattle.triple.specs.Refusals.{numberOf}
 use Rattle.grammar.proofs.AnswerLaws.{empty-text, text-shape, text-lines}
 use borrow.Author.Needs.{needs}
-use Rattle.grammar.proofs.text.test_text.Statement.{statement}
-use Rattle.grammar.proofs.text.test_text.Tie as tie
+use Rattle.grammar.proofs.tests.test_text.Statement.{statement}
+use Rattle.grammar.proofs.tests.test_text.Tie as tie
 
 returns : tie.Need-returns
 unfolding numberOf

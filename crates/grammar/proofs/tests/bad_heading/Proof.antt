@@ -2,8 +2,8 @@
 use Rattle.grammar.specs.TextParts.{lineAt, linesBy}
 use Rattle.grammar.proofs.VerdictLaws.{heading-along, heading-back}
 use borrow.Author.Needs.{needs}
-use Rattle.grammar.proofs.text.bad_heading.Statement.{statement}
-use Rattle.grammar.proofs.text.bad_heading.Tie as tie
+use Rattle.grammar.proofs.tests.bad_heading.Statement.{statement}
+use Rattle.grammar.proofs.tests.bad_heading.Tie as tie
 
 rule-of-requires : tie.Need-rule-of-requires
 rule-of-requires c κs = search needs

@@ -2,8 +2,8 @@
 use Rattle.triple.specs.Refusals.{numberOf}
 use Rattle.grammar.proofs.AnswerLaws.{order}
 use borrow.Author.Needs.{needs}
-use Rattle.grammar.proofs.text.test_lines.Statement.{statement}
-use Rattle.grammar.proofs.text.test_lines.Tie as tie
+use Rattle.grammar.proofs.tests.test_lines.Statement.{statement}
+use Rattle.grammar.proofs.tests.test_lines.Tie as tie
 
 first-bad-requires : tie.Need-first-bad-requires
 first-bad-requires c κs = search needs

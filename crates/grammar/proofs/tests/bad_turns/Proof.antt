@@ -2,8 +2,8 @@
 use Rattle.grammar.specs.TextParts.{lineAt, linesBy}
 use Rattle.grammar.proofs.VerdictLaws.{turns-rule, turns-draw}
 use borrow.Author.Needs.{needs}
-use Rattle.grammar.proofs.text.bad_turns.Statement.{statement}
-use Rattle.grammar.proofs.text.bad_turns.Tie as tie
+use Rattle.grammar.proofs.tests.bad_turns.Statement.{statement}
+use Rattle.grammar.proofs.tests.bad_turns.Tie as tie
 
 rule-of-requires : tie.Need-rule-of-requires
 rule-of-requires c κs = search needs
