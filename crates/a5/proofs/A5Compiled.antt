@@ -9,16 +9,16 @@ use Rattle.turtle.specs.Plane.{origin, _⊕_, neg, rot, rots, signed, thrice, f
 use Rattle.turtle.specs.Letters.{toggled, letters, strokeOf}
 use Rattle.turtle.specs.Walk.{symbolOf, symbolsOf, move, corner, turnedFlavor, cell, cells, final}
 use Rattle.classifier.specs.Hulls.{insert, sorted, cross, popped, chained, hull}
-use Rattle.classifier.specs.Splits.{lineThrough, value, side, treeOf, whole, collected, separators, choice}
+use Rattle.classifier.specs.Splits.{lineThrough, value, polygonsOn, treeOf, whole, collected, separators, choice}
+use Rattle.classifier.specs.Shapes.{classifierOf}
 use Rattle.grammar.specs.Words.{upper, mirrored, reversed, wordOf, expandOnce}
-use Rattle.grammar.specs.Texts.{rowsOf, fieldsOf, shaped, lineOf, linesOf}
-use Rattle.grammar.specs.Curves as Curves
-use Rattle.grammar.specs.Curves.{passes, strokes, drawing, net, tokenBytes, letterOf, tokenOf, childOf, childrenOf, turned, upright}
+use Rattle.text.specs.Words.{wordsOf as fieldsOf}
+use Rattle.grammar.specs.Texts.{rowsOf, shaped, lineOf, linesOf}
+use Rattle.grammar.specs.Curves.{passes, strokes, drawing, net, tokenBytes, letterOf, tokenOf, ruleSymbol, ruleSymbols, turned, letterCount, upright}
 use Rattle.grammar.specs.Tests.{fine, badShape, badMotif, badRule, badCount, badHeading, badDraw, badTurns, badNet, lineTests, textTests}
-use Rattle.tables.specs.Children.{met, children, offsetAfter, offset, leaves}
-use Rattle.tables.specs.Hulls.{footprint, hullOf}
-use Rattle.tables.specs.Classifier.{placed, polygon, tree}
-use Rattle.tables.specs.Table.{stateOf, row, tableOf}
+use Rattle.tables.specs.Children.{childrenAlong, children, offsetAfter, offset, leaves}
+use Rattle.tables.specs.Classifier.{footprint, hullOf, placedHull, polygon, classes}
+use Rattle.tables.specs.Table.{stateOf, stateRow, tableOf}
 use Rattle.tables.specs.Verdicts.{badSplit, splitTests, verdict}
 use Rattle.tables.specs.Compiler.{states, tableFor, compiledTo, afterCompile}
 use Rattle.tables.proofs.Entries.{length-table}
@@ -27,7 +27,7 @@ use Rattle.a5.specs.A5.{a5Text}
 use Rattle.a5.specs.A5Table.{a5Table}
 
 computed : (verdict a5Text ≡ fine) × (tableOf (linesOf a5Text) ≡ a5Table)
-unfolding origin _⊕_ neg rot rots signed thrice facing flipped toggled letters strokeOf symbolOf symbolsOf move corner turnedFlavor cell cells final upper mirrored reversed wordOf expandOnce rowsOf fieldsOf shaped lineOf linesOf passes strokes drawing net tokenBytes letterOf tokenOf childOf childrenOf turned Curves.letters upright badShape badMotif badRule badCount badHeading badDraw badTurns badNet lineTests textTests met children offsetAfter offset leaves footprint insert sorted cross popped chained hull hullOf placed polygon lineThrough value side treeOf tree whole collected separators choice stateOf row tableOf badSplit splitTests verdict a5Text a5Table
+unfolding origin _⊕_ neg rot rots signed thrice facing flipped toggled letters strokeOf symbolOf symbolsOf move corner turnedFlavor cell cells final upper mirrored reversed wordOf expandOnce rowsOf fieldsOf shaped lineOf linesOf passes strokes drawing net tokenBytes letterOf tokenOf ruleSymbol ruleSymbols turned letterCount upright badShape badMotif badRule badCount badHeading badDraw badTurns badNet lineTests textTests childrenAlong children offsetAfter offset leaves footprint insert sorted cross popped chained hull hullOf placedHull polygon lineThrough value polygonsOn treeOf classifierOf classes whole collected separators choice stateOf stateRow tableOf badSplit splitTests verdict a5Text a5Table
 computed = (refl, refl)
 
 pub a5-accepted : verdict a5Text ≡ fine

@@ -1,5 +1,4 @@
 -- A5's children, offsets and leaves, as its grammar has them, are those of its table, which is compiled from its text; and they are small.
--- Assumes nothing.
 use mathlib.Core.Path.{_≡_, refl}
 use mathlib.Core.Bool.{Bool}
 use mathlib.Core.List.{List, [], _∷_}
@@ -9,7 +8,8 @@ use lib.ListN.{length}
 use lib.IntN.{pos, natAbs}
 use Rattle.whole.proofs.Claims.{Claim, le, Hold, below, all, each}
 use Rattle.turtle.specs.Plane.{signed, flipped}
-use Rattle.grammar.specs.Texts.{rowsOf, fieldsOf, lineOf, linesOf}
+use Rattle.text.specs.Words.{wordsOf as fieldsOf}
+use Rattle.grammar.specs.Texts.{rowsOf, lineOf, linesOf}
 use Rattle.grammar.specs.Curves.{tokenBytes}
 use Rattle.tables.specs.Children.{child, offset, leaf}
 use Rattle.tables.specs.Table.{stateOf, flavorNumber}

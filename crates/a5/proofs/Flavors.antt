@@ -6,7 +6,7 @@ use Prim.Native.Nat.{ℕ, zero, suc, _+_, _-_, _*_, _/_, _%_, _^_, _<_}
 use native.Mathlib.Omega.{arith}
 use lib.Dec.{T}
 use lib.IntN.{ℤ, pos, negsuc, natAbs}
-use Rattle.whole.proofs.Parts.{up, dn}
+use Rattle.whole.proofs.Parts.{abs-parts}
 use Rattle.whole.proofs.View.{View, view, v-pos, v-add, v-neg, eq-by}
 use Rattle.whole.proofs.Digits.{two-power, twice-power}
 use Rattle.whole.proofs.Claims.{Claim, eq, Hold, below, all, each}
@@ -70,13 +70,8 @@ flavor-walk (suc (suc n)) k s q h e =
     flavor-walk (suc n) (childState k d) s q (down k d h l .0) (parity-down (2 ^ suc n) k d c q h l (subst (λ m. HasParity m k (moved (2 ^ suc n) k d c) q) (twice-power (suc n)) e)) ∙ ap (λ m. q + 2 * m) m
 
 -- ---- the closed formula of a spot's triple
-size-parts : (z : ℤ) → natAbs z ≡ up z + dn z
-unfolding up dn
-size-parts (pos a) = omega arith
-size-parts (negsuc a) = omega arith
-
 size-odd : {z : ℤ} (v : View z) → T (v .ok) → natAbs z % 2 ≡ (v .p + v .n) % 2
-size-odd {z} v t = let e = v .is t .0 in rw (size-parts z) (omega arith)
+size-odd {z} v t = let e = v .is t .0 in rw (abs-parts z) (omega arith)
 
 module _ (n : ℕ) (p : Spot) (q : ℕ) (e : q + (p .g + 2 * 2 ^ n) ≡ p .x + p .y + 1) where
   sum-parity : sumOf (tripleAt n p) ≡ pos q

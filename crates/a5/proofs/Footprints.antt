@@ -9,7 +9,7 @@ use lib.Dec.{eqb}
 use lib.IntN.{ℤ, pos, natAbs, _+ℤ_, _-ℤ_, _*ℤ_}
 use lib.Signed.{leZ, quotZ}
 use lib.ListN.{getD}
-use Rattle.whole.proofs.Claims.{eqZ}
+use Rattle.whole.specs.Tests.{equal}
 use Rattle.turtle.specs.declared.AB.{AB}
 use Rattle.turtle.specs.Plane.{ab}
 use Rattle.tables.specs.Table.{bit}
@@ -73,11 +73,11 @@ leafFlavor k d = natAbs (flavorAt a5Table k d)
 
 -- ---- separator i looks at one number, its axis: 0 for x, 1 for y, 2 for g. Its bit is `upward` where that is at or above the threshold, in units of the children's scale
 unfoldable pub axis : ℕ → ℕ → ℕ
-axis k i = cond (eqZ (factorA k i) (pos 0)) 0 (cond (eqZ (factorB k i) (pos 0)) 1 2)
+axis k i = cond (equal (factorA k i) (pos 0)) 0 (cond (equal (factorB k i) (pos 0)) 1 2)
 
 -- a twelfth of its factor
 unfoldable pub slope : ℕ → ℕ → ℤ
-slope k i = quotZ (cond (eqZ (factorA k i) (pos 0)) (factorB k i) (factorA k i)) (pos 12)
+slope k i = quotZ (cond (equal (factorA k i) (pos 0)) (factorB k i) (factorA k i)) (pos 12)
 
 unfoldable pub upward : ℕ → ℕ → ℕ
 upward k i = bit (leZ (pos 0) (slope k i))

@@ -1,12 +1,11 @@
 -- The lookup by A5's table: at each level the sides of three separators choose the child, and the leaf is the one that has the corner sum left.
 use mathlib.Core.Bool.{cond}
 use Prim.Native.Nat.{ℕ, zero, suc, _+_, _*_, _^_}
-use lib.IntN.{ℤ, pos, negsuc, natAbs, _+ℤ_, _*ℤ_}
-use lib.Signed.{leZ}
+use lib.IntN.{ℤ, natAbs}
 use Rattle.turtle.specs.declared.AB.{AB}
 use Rattle.turtle.specs.Plane.{_⊕_, neg, thrice, doubled, equalAB}
-use Rattle.tables.specs.Table.{bit}
-use Rattle.tables.specs.Descent.{entry, childAt, offsetAt, sumAt}
+use Rattle.tables.specs.Descent.{childAt, offsetAt, sumAt}
+use Rattle.tables.specs.Patterns.{separatorAt, valueAt, sideOf, patternOf, choiceAt}
 use Rattle.a5.specs.A5Table.{a5Table}
 
 -- p less q
@@ -20,28 +19,28 @@ childState k d = natAbs (childAt a5Table k d)
 
 -- separator i: its factors and its constant
 abbrev pub factorA : ℕ → ℕ → ℤ
-factorA k i = entry a5Table k (24 + 3 * i)
+factorA k i = separatorAt a5Table k i .x
 
 abbrev pub factorB : ℕ → ℕ → ℤ
-factorB k i = entry a5Table k (25 + 3 * i)
+factorB k i = separatorAt a5Table k i .y
 
 abbrev pub constant : ℕ → ℕ → ℤ
-constant k i = entry a5Table k (26 + 3 * i)
+constant k i = separatorAt a5Table k i .c
 
 -- its value at p, a corner sum as seen from the state's start, where the children are scaled by 2 ^ n
 unfoldable pub separatorValue : ℕ → ℕ → ℕ → AB → ℤ
-separatorValue n k i p = factorA k i *ℤ p .a +ℤ factorB k i *ℤ p .b +ℤ constant k i *ℤ pos (2 ^ n)
+separatorValue n k i p = valueAt a5Table n k i p
 
--- its bit: 1 when the value is at least -1
+-- its bit
 unfoldable pub side : ℕ → ℕ → ℕ → AB → ℕ
-side n k i p = bit (leZ (negsuc 0) (separatorValue n k i p))
+side n k i p = sideOf (separatorValue n k i p)
 
 -- the child for the pattern of the three bits
 unfoldable pub choice : ℕ → ℕ → ℕ
-choice k pattern = natAbs (entry a5Table k (33 + pattern))
+choice k pattern = choiceAt a5Table k pattern
 
 unfoldable pub chosen : ℕ → ℕ → AB → ℕ
-chosen n k p = choice k (side n k 0 p + 2 * side n k 1 p + 4 * side n k 2 p)
+chosen n k p = choice k (patternOf (side n k 0 p) (side n k 1 p) (side n k 2 p))
 
 -- the first leaf with the corner sum p; 4 if there is none
 unfoldable pub matching : ℕ → AB → ℕ

@@ -1,6 +1,5 @@
 -- A text's table and its number of states, written into two slices: the compiler is lent all of the table where the other slice has room for
 -- the number, and nothing where it has none.
--- Assumes nothing.
 use mathlib.Core.Path.{_≡_, refl, ap, _∙_}
 use mathlib.Core.Logic.{⊎-elim}
 use mathlib.Core.Bool.{Bool, true, false, cond}
@@ -22,7 +21,7 @@ use Rattle.tables.specs.Compiler.{states, faulty, tableFor, compiledTo, afterCo
 use Rattle.tables.specs.Compiler as Compiler
 use Rattle.tables.specs.Verdicts.{verdict}
 use Rattle.tables.proofs.Entries.{length-table}
-use Rattle.tables.proofs.CompileLaws.{when-states, when-refused, when-faulty, some-tokens}
+use Rattle.tables.proofs.CompilerLaws.{when-states, when-refused, when-faulty, some-tokens}
 use Rattle.capi.specs.Lent.{statusOf, Called, firstOf, CalledBoth}
 use Rattle.capi.specs.Calls.{countValues, compileBy, compileCall, faultLine, compileStatus, CompileCalled}
 use Rattle.capi.proofs.FaultLaws.{Few, verdict-few, fault-few}

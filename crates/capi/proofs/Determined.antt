@@ -1,5 +1,4 @@
 -- Each contract of this crate allows one result alone: one status, and one content of every slice that is lent to be written.
--- Assumes nothing.
 use mathlib.Core.Path.{_≡_, sym, _∙_}
 use mathlib.Core.List.{List}
 use Prim.Native.Nat.{ℕ}

@@ -6,12 +6,13 @@ use lib.IntN.{pos, negsuc}
 use lib.Ieee.{nan}
 use Rattle.triple.specs.Refusals.{numberOf}
 use Rattle.turtle.specs.Plane.{far}
-use Rattle.turtle.specs.Corners.{cornerSum, candidate, has, tripleOf}
+use Rattle.turtle.specs.Corners.{cornerSum, candidate, hasCornerSum, tripleOf}
 use Rattle.code.specs.Codes.{bitsOf, valueOf, bytesOf, codeLength, codeBits, codeBytes}
-use Rattle.grammar.specs.Texts.{rowsOf, fieldsOf, shaped}
+use Rattle.text.specs.Words.{wordsOf as fieldsOf}
+use Rattle.grammar.specs.Texts.{rowsOf, shaped}
 use Rattle.grammar.specs.Tests.{badShape, textTests}
 use Rattle.tables.specs.Verdicts.{verdict}
-use Rattle.nodes.specs.Nodes.{goodNode, childOf}
+use Rattle.nodes.specs.Nodes.{goodNode, childStepOf}
 use Rattle.capi.specs.Lent.{statusOf, afterCall, firstOf, secondOf}
 use Rattle.capi.specs.Calls.{tripleCall, stepCall, writeCall, compileCall, compileStatus}
 
@@ -22,7 +23,7 @@ pub triple-examples :
     × (statusOf (tripleCall (pos 20) (negsuc 15)) (pos 7 ∷ pos 7 ∷ []) ≡ 10)
     × (afterCall (tripleCall (pos 20) (negsuc 15)) (pos 7 ∷ pos 7 ∷ []) ≡ pos 7 ∷ pos 7 ∷ [])
     × (statusOf (tripleCall (pos 14) (negsuc 3)) [] ≡ 6)
-unfolding numberOf far cornerSum candidate has tripleOf statusOf afterCall
+unfolding numberOf far cornerSum candidate hasCornerSum tripleOf statusOf afterCall
 triple-examples = (refl, refl, refl, refl, refl)
 
 -- the code of UV r 2 s 6 and its count: with room for both; with none for the count; with none for the code
@@ -44,7 +45,7 @@ pub step-examples :
     × (statusOf (firstOf (stepCall (negsuc 0) (pos 0) nan nan 4 1 5) []) [] ≡ 7)
     × (statusOf (firstOf (stepCall (pos 0) (negsuc 0) nan nan 4 1 5) []) [] ≡ 7)
     × (statusOf (firstOf (stepCall (pos 14) (pos 0) nan nan 4 1 5) []) [] ≡ 7)
-unfolding numberOf goodNode childOf stepCall statusOf firstOf
+unfolding numberOf goodNode childStepOf stepCall statusOf firstOf
 step-examples = (refl, refl, refl, refl, refl)
 
 -- the empty text: 12, line 0; `A` alone, ended by LF: 12, line 1

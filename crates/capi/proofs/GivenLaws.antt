@@ -14,10 +14,11 @@ use mir.Syntax.{w8, w32}
 use mir.Val.{Fits, SFits, toZ, ofZ}
 use mir.ValLaws.{toZ-ofZ}
 use Rattle.triple.specs.declared.refusal.Refusal.the-variants as Is
+use Rattle.triple.specs.Domain.{inDomain}
 use Rattle.triple.specs.Refusals.{Told, refused, numberOf, refuse}
 use Rattle.nodes.specs.declared.Node.{Node}
 use Rattle.nodes.specs.declared.ChildStep.{ChildStep}
-use Rattle.nodes.specs.Nodes.{goodNode, childOf}
+use Rattle.nodes.specs.Nodes.{goodNode, childStepOf}
 use Rattle.nodes.proofs.NodeLaws.{motif-high, flip-high}
 use Rattle.capi.specs.Lent.{valued, CalledBoth}
 use Rattle.capi.specs.Calls.{stepValues, stepCall}
@@ -69,28 +70,34 @@ module _ (greatest : ℕ) where
 
 -- ---- a step from a clipped node
 abbrev first : {A : Type 0} → ℕ → ℕ → Told A → Told A
-first o r t = refuse (eqb r 0 || ltb 30 r) Is.Resolution (refuse (ltb 5 o) Is.Orientation t)
+first o r t = refuse (eqb r 0) Is.Resolution (inDomain o r t)
 
 module _ (o r : ℕ) (n : Node) (d : ℕ) where
   -- a step makes the first two tests itself
-  first-again : valued stepValues (childOf o r n d) ≡ first o r (valued stepValues (childOf o r n d))
-  unfolding childOf
-  first-again = go (eqb r 0 || ltb 30 r) (ltb 5 o) _
+  first-again : valued stepValues (childStepOf o r n d) ≡ first o r (valued stepValues (childStepOf o r n d))
+  unfolding childStepOf
+  first-again = go (eqb r 0) (ltb 30 r) (ltb 5 o) _
     where
-      go : (w x : Bool) (t : Told ChildStep)
-          → valued stepValues (refuse w Is.Resolution (refuse x Is.Orientation t)) ≡ refuse w Is.Resolution (refuse x Is.Orientation (valued stepValues (refuse w Is.Resolution (refuse x Is.Orientation t))))
-      go true x t = refl
-      go false true t = refl
-      go false false t = refl
+      first-by : {A : Type 0} → Bool → Bool → Bool → Told A → Told A
+      first-by v w x t = refuse v Is.Resolution (refuse w Is.Resolution (refuse x Is.Orientation t))
 
-  bad-step : false ≡ goodNode n → valued stepValues (childOf o r n d) ≡ first o r (refused (numberOf Is.Node))
-  unfolding childOf
-  bad-step e = rw (sym e) (go (eqb r 0 || ltb 30 r) (ltb 5 o))
+      go : (v w x : Bool) (t : Told ChildStep) → valued stepValues (first-by v w x t) ≡ first-by v w x (valued stepValues (first-by v w x t))
+      go true w x t = refl
+      go false true x t = refl
+      go false false true t = refl
+      go false false false t = refl
+
+  bad-step : false ≡ goodNode n → valued stepValues (childStepOf o r n d) ≡ first o r (refused (numberOf Is.Node))
+  unfolding childStepOf
+  bad-step e = rw (sym e) (go (eqb r 0) (ltb 30 r) (ltb 5 o))
     where
-      go : (w x : Bool) → valued stepValues (refuse w Is.Resolution (refuse x Is.Orientation (refused (numberOf Is.Node)))) ≡ refuse w Is.Resolution (refuse x Is.Orientation (refused (numberOf Is.Node)))
-      go true x = refl
-      go false true = refl
-      go false false = refl
+      go : (v w x : Bool)
+          → valued stepValues (refuse v Is.Resolution (refuse w Is.Resolution (refuse x Is.Orientation (refused (numberOf Is.Node)))))
+          ≡ refuse v Is.Resolution (refuse w Is.Resolution (refuse x Is.Orientation (refused (numberOf Is.Node))))
+      go true w x = refl
+      go false true x = refl
+      go false false true = refl
+      go false false false = refl
 
 -- ---- the node that is given, and the one that the code makes of it
 clipped-high : (greatest n : ℕ) → ltb greatest n ≡ true → greatest < clipped greatest (pos n)
@@ -118,25 +125,25 @@ module _ (a b : Float) (d r o : ℕ) where
   abbrev node : ℕ → ℕ → Node
   node m f = record { motif = m; flip = f; «pos_a» = a; «pos_b» = b }
 
-  same-step : (m f : ℕ) → ltb 13 m ≡ false → ltb 1 f ≡ false → valued stepValues (childOf o r (nodeClipped (pos m) (pos f) a b) d) ≡ stepCall (pos m) (pos f) a b d r o
+  same-step : (m f : ℕ) → ltb 13 m ≡ false → ltb 1 f ≡ false → valued stepValues (childStepOf o r (nodeClipped (pos m) (pos f) a b) d) ≡ stepCall (pos m) (pos f) a b d r o
   unfolding stepCall
   same-step m f h k = rw (clipped-same 13 m h, clipped-same 1 f k) (first-again o r (node m f) d)
 
   -- of two that are not negative, one is too large
-  high-step : (m f : ℕ) → (13 < m) ⊎ (1 < f) → (13 < clipped 13 (pos m)) ⊎ (1 < clipped 1 (pos f)) → valued stepValues (childOf o r (nodeClipped (pos m) (pos f) a b) d) ≡ stepCall (pos m) (pos f) a b d r o
+  high-step : (m f : ℕ) → (13 < m) ⊎ (1 < f) → (13 < clipped 13 (pos m)) ⊎ (1 < clipped 1 (pos f)) → valued stepValues (childStepOf o r (nodeClipped (pos m) (pos f) a b) d) ≡ stepCall (pos m) (pos f) a b d r o
   unfolding stepCall
   high-step m f h k =
       bad-step o r (nodeClipped (pos m) (pos f) a b) d (high _ k)
       ∙ sym (bad-step o r (node m f) d (high _ h))
       ∙ first-again o r (node m f) d
 
-  pub step-given : (m f : ℤ) → valued stepValues (childOf o r (nodeClipped m f a b) d) ≡ stepCall m f a b d r o
+  pub step-given : (m f : ℤ) → valued stepValues (childStepOf o r (nodeClipped m f a b) d) ≡ stepCall m f a b d r o
   unfolding stepCall
   step-given (negsuc m) f = bad-step o r (nodeClipped (negsuc m) f a b) d (high _ (inl (clipped-negative 13 m)))
   step-given (pos m) (negsuc f) = bad-step o r (nodeClipped (pos m) (negsuc f) a b) d (high _ (inr (clipped-negative 1 f)))
   step-given (pos m) (pos f) = go (ltb 13 m) (ltb 1 f) refl refl
     where
-      go : (s t : Bool) → ltb 13 m ≡ s → ltb 1 f ≡ t → valued stepValues (childOf o r (nodeClipped (pos m) (pos f) a b) d) ≡ stepCall (pos m) (pos f) a b d r o
+      go : (s t : Bool) → ltb 13 m ≡ s → ltb 1 f ≡ t → valued stepValues (childStepOf o r (nodeClipped (pos m) (pos f) a b) d) ≡ stepCall (pos m) (pos f) a b d r o
       go true t h k = high-step m f (inl (ltb-true 13 m h)) (inl (clipped-high 13 m h))
       go false true h k = high-step m f (inr (ltb-true 1 f k)) (inr (clipped-high 1 f k))
       go false false h k = same-step m f h k
@@ -153,5 +160,5 @@ module _ {x y : ℤ} (fits : Fitting w32 (x ∷ y ∷ [])) where
   node-made {a} {b} h k e = (rw (h, k) at e) ∙ made-is a b
 
   module _ {a b : Float} {n : Node} (is-made : n ≡ made a b) (d r o : ℕ) (numbers : List ℤ) (places : List Float) {k : ℕ} {after : List ℤ} {placed : List Float} where
-    pub step-called : CalledBoth (valued stepValues (childOf o r n d)) numbers places k after placed → CalledBoth (stepCall x y a b d r o) numbers places k after placed
+    pub step-called : CalledBoth (valued stepValues (childStepOf o r n d)) numbers places k after placed → CalledBoth (stepCall x y a b d r o) numbers places k after placed
     step-called p = rw (is-made ∙ made-is a b, step-given a b d r o x y) at p

@@ -1,5 +1,4 @@
 -- A call's status and its slices in each case, in the form of what the code has in hand: what was stored, what the operation answered.
--- Assumes nothing.
 use mathlib.Core.Path.{_≡_, refl, sym, ap, _∙_}
 use mathlib.Core.Bool.{Bool, true, false}
 use mathlib.Core.List.{List, _++_}

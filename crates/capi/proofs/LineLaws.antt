@@ -1,5 +1,4 @@
 -- A line's answer and its length, written into two slices: the printer is lent all of the first where the second has room for the length, and nothing where it has none.
--- Assumes nothing.
 use mathlib.Core.Path.{_≡_, refl, sym, ap, _∙_}
 use mathlib.Core.Logic.{⊎-elim}
 use mathlib.Core.Bool.{cond}
@@ -13,7 +12,8 @@ use lib.ListN.{length, take, drop, take-append-drop, length-append}
 use lib.Seq.{length-take-le, take-length, drop-length}
 use Rattle.triple.specs.Refusals.{Told, told, refused}
 use Rattle.query.specs.declared.Found.{Found}
-use Rattle.query.specs.Lines.{wordsOf, spaced, answerLine}
+use Rattle.text.specs.Words.{spaced}
+use Rattle.query.specs.Lines.{foundWords, answerLine}
 use Rattle.query.specs.Prints.{printOf, printed, afterPrint}
 use Rattle.capi.specs.Calls.{countValues}
 use Rattle.capi.specs.Lent.{Called, CalledBoth}
@@ -25,8 +25,8 @@ words-some : (v w : List ℕ) (ws : List (List ℕ)) → 0 < length (spaced (v �
 unfolding spaced
 words-some v w ws = rw (length-append v (32 ∷ spaced (w ∷ ws))) (omega arith)
 
-found-some : (found : Told Found) → 0 < length (spaced (wordsOf found))
-unfolding wordsOf
+found-some : (found : Told Found) → 0 < length (spaced (foundWords found))
+unfolding foundWords
 found-some (told (Found.Cell c)) = words-some _ _ _
 found-some (told (Found.Position p)) = words-some _ _ _
 found-some (told (Found.Point t p)) = words-some _ _ _

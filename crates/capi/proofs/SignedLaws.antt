@@ -1,5 +1,4 @@
 -- A signed number is held and stored as it is read back from its bits, and that is the number.
--- Assumes nothing.
 use mathlib.Core.Path.{_≡_, refl, _∙_}
 use mathlib.Core.List.{List, [], _∷_}
 use Prim.Native.Nat.{_≤_}

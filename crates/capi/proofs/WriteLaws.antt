@@ -1,5 +1,4 @@
 -- A code and its count, written into two slices: the writer is lent all of the first where the second has room for the count, and nothing where it has none.
--- Assumes nothing.
 use mathlib.Core.Path.{_≡_, refl, sym, ap, _∙_}
 use mathlib.Core.Logic.{_⊎_, inl, inr, ⊎-elim}
 use mathlib.Core.Bool.{Bool, true, false, cond}
@@ -13,6 +12,7 @@ use lib.Seq.{length-take-le, take-length, drop-length}
 use borrow.Author.Tests.{le-ltb, ltb-true, ltb-false}
 use Rattle.triple.specs.declared.refusal.Refusal.the-variants as Is
 use Rattle.triple.specs.Refusals.{Told, told, refused, numberOf, refuse}
+use Rattle.triple.specs.Domain.{greatestResolution, greatestOrientation}
 use Rattle.code.specs.Codes.{codeLength, codeBytes, written, writeOf, afterWrite}
 use Rattle.code.proofs.CodeLaws.{length-code}
 use Rattle.capi.specs.Calls.{countValues, writeCall}
@@ -80,7 +80,7 @@ module _ (bytes out : List ℕ) {n : ℕ} (within : n ≤ length bytes) (lent : 
     module _ {count : ℕ} (wrote : given ≡ told count) where
       passes : Passes
       unfolding writeOf writeCall
-      passes = passed (told (codeBytes o r s, countValues (codeLength r))) (ltb 30 r) (ltb 5 o) (leb (4 ^ r) s) answers wrote
+      passes = passed (told (codeBytes o r s, countValues (codeLength r))) (ltb greatestResolution r) (ltb greatestOrientation o) (leb (4 ^ r) s) answers wrote
 
       roomy : (codeLength r ≤ length (take n bytes)) × (count ≡ codeLength r)
       roomy = room-told (length (take n bytes)) (codeLength r) (passes .0) wrote
@@ -107,7 +107,7 @@ module _ (bytes out : List ℕ) {n : ℕ} (within : n ≤ length bytes) (lent : 
         let kept : after ++ drop n bytes ≡ bytes = rw (left, f) (take-append-drop n bytes) in
         rw kept
         (⊎-elim (λ g. none-written bytes out g p) short
-        (stopped (told (codeBytes o r s, countValues (codeLength r))) (ltb 30 r) (ltb 5 o) (leb (4 ^ r) s) answers f))
+        (stopped (told (codeBytes o r s, countValues (codeLength r))) (ltb greatestResolution r) (ltb greatestOrientation o) (leb (4 ^ r) s) answers f))
       where
         short : Passes → CalledBoth (writeCall o r s) bytes out k bytes out
         short q =

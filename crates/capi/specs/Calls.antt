@@ -1,24 +1,24 @@
 -- Each call's values, in the order in which it writes them.
 use mathlib.Core.Path.{_≡_}
-use mathlib.Core.Bool.{_||_}
 use mathlib.Core.List.{List, [], _∷_}
 use Prim.Native.Nat.{ℕ, _+_, _*_, _^_}
-use lib.Dec.{leb, ltb, eqb}
+use lib.Dec.{leb, eqb}
 use lib.IntN.{ℤ, pos, negsuc}
 use lib.ListN.{length}
 use lib.Ieee.{Float}
 use Rattle.triple.specs.declared.Triple.{Triple}
 use Rattle.triple.specs.declared.refusal.Refusal.the-variants as Is
 use Rattle.triple.specs.Refusals.{Told, told, refused, numberOf, refuse, _>>=_}
+use Rattle.triple.specs.Domain.{inDomain}
 use Rattle.turtle.specs.declared.AB.{AB}
 use Rattle.turtle.specs.Corners.{cornerSumOf, tripleOf}
-use Rattle.lsystem.specs.declared.Named.{Named}
+use Rattle.lsystem.specs.declared.cell.Cell.{Cell}
 use Rattle.lsystem.specs.declared.Position.{Position}
 use Rattle.nodes.specs.declared.Node.{Node}
 use Rattle.nodes.specs.declared.ChildStep.{ChildStep}
 use Rattle.nodes.specs.declared.Reached.{Reached}
 use Rattle.lsystem.specs.Cells.{cellOf, positionOf}
-use Rattle.nodes.specs.Nodes.{childOf, nodeOf}
+use Rattle.nodes.specs.Nodes.{childStepOf, nodeOf}
 use Rattle.tables.specs.Descent.{Leaf, descentOf}
 use Rattle.curve.specs.Points.{pointOf}
 use Rattle.code.specs.declared.Reading.{Reading}
@@ -36,7 +36,7 @@ abbrev pub tripleValues : Triple → List ℤ
 tripleValues t = t .x ∷ t .y ∷ t .z ∷ []
 
 -- x y z flavor
-abbrev pub cellValues : Named → List ℤ
+abbrev pub cellValues : Cell → List ℤ
 cellValues c = c .triple .x ∷ c .triple .y ∷ c .triple .z ∷ pos (c .flavor) ∷ []
 
 -- s flavor
@@ -86,11 +86,11 @@ nodeGiven (negsuc m) f a b = refused (numberOf Is.Node)
 -- 1 and 2 are tested before the node is looked at, as in the step itself
 unfoldable pub stepCall : ℤ → ℤ → Float → Float → ℕ → ℕ → ℕ → Told (List ℤ × List Float)
 stepCall m f a b d r o =
-    refuse (eqb r 0 || ltb 30 r) Is.Resolution
-    (refuse (ltb 5 o) Is.Orientation
+    refuse (eqb r 0) Is.Resolution
+    (inDomain o r
     (do
       n ← nodeGiven m f a b
-      valued stepValues (childOf o r n d)))
+      valued stepValues (childStepOf o r n d)))
 
 abbrev pub pointCall : Float → Float → ℕ → Told (List ℤ)
 pointCall i j r = valued tripleValues (pointOf r i j)
@@ -110,10 +110,9 @@ readCall bytes = valued readingValues (readOf bytes)
 -- the code's bytes, and their count
 unfoldable pub writeCall : ℕ → ℕ → ℕ → Told (List ℕ × List ℕ)
 writeCall o r s =
-    refuse (ltb 30 r) Is.Resolution
-    (refuse (ltb 5 o) Is.Orientation
+    inDomain o r
     (refuse (leb (4 ^ r) s) Is.Position
-    (told (codeBytes o r s, countValues (codeLength r)))))
+    (told (codeBytes o r s, countValues (codeLength r))))
 
 -- the answer to a line as the program prints it, without LF, and its length
 abbrev pub lineCall : List ℕ → Told (List ℕ × List ℕ)

@@ -8,8 +8,8 @@ ghost use Rattle.capi.specs.Lent.{statusOf, afterCall, firstOf, secondOf
 ghost use Rattle.capi.specs.Calls.{tripleValues, cellValues, positionValues, nodeValues, stepValues, pairValues, drawnValues, countValues, readingValues};
 use code::Reading;
 use descent::TableCell;
-use lsystem::Named;
 use lsystem::Position;
+use lsystem::cell::Cell;
 use nodes::ChildStep;
 use nodes::Node;
 use triple::Triple;
@@ -33,7 +33,7 @@ pub(crate) fn put_triple(t: Triple, out: &mut [i32]) -> u8
 }
 
 // x y z flavor
-pub(crate) fn put_cell(c: Named, out: &mut [i32]) -> u8
+pub(crate) fn put_cell(c: Cell, out: &mut [i32]) -> u8
     ensures { λ n. ⌜ (n ≡ statusOf (told (cellValues c)) (now (out .entry))) × (now (out .exit) ≡ afterCall (told (cellValues c)) (now (out .entry))) ⌝ }
 {
     if out.len() < 4 {

@@ -1,5 +1,4 @@
 -- The contracts of a hull and of a classifier leave one answer each: what equals the definition's is that.
--- Assumes nothing.
 use mathlib.Core.Path.{_≡_, sym, _∙_}
 use mathlib.Core.List.{List, map}
 use Rattle.classifier.specs.declared.Corner.{Corner}
@@ -7,7 +6,7 @@ use Rattle.classifier.specs.declared.Hull.{Hull}
 use Rattle.classifier.specs.declared.Placed.{Placed}
 use Rattle.classifier.specs.declared.Classifier.{Classifier}
 use Rattle.classifier.specs.Hulls.{hull}
-use Rattle.classifier.specs.Parts.{pointOf, hullBy, polygonsOf, classifierOf}
+use Rattle.classifier.specs.Shapes.{pointOf, hullBy, polygonsOf, classifierOf}
 
 pub hull-determined : (points : List Corner) {h k : Hull} → h ≡ hullBy (hull (map pointOf points)) → k ≡ hullBy (hull (map pointOf points)) → h ≡ k
 hull-determined points e f = e ∙ sym f

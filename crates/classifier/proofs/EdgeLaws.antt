@@ -1,5 +1,4 @@
 -- The edges of footprints in order, a clean split, and the search for the first edge that is one.
--- Assumes nothing.
 use mathlib.Core.Path.{_≡_, refl, sym, ap, _∙_}
 use mathlib.Core.Bool.{Bool, true, false, not, _&&_, cond}
 use mathlib.Core.List.{List, [], _∷_, _++_}
@@ -17,9 +16,9 @@ use Rattle.turtle.specs.declared.AB.{AB}
 use Rattle.turtle.specs.Plane.{origin}
 use Rattle.classifier.specs.declared.Placed.{Placed}
 use Rattle.classifier.specs.declared.Separator.{Separator}
-use Rattle.classifier.specs.Splits.{Polygon, lineThrough, edgesFrom, edges, allEdges, side, allUnder, isEmpty, clean, firstClean}
-use Rattle.classifier.specs.Parts.{cornersOf, noPlaced, noSeparator, polygonOf}
-use Rattle.classifier.specs.Sets.{kept, membersFrom, edgeAt, edgesOf}
+use Rattle.classifier.specs.Splits.{Polygon, lineThrough, edgesFrom, edges, allEdges, polygonsOn, allUnder, isEmpty, clean, firstClean}
+use Rattle.classifier.specs.Shapes.{placedCorners, noPlaced, noSeparator, polygonOf}
+use Rattle.classifier.specs.Inside.Sets.{kept, membersFrom, edgeAt, edgesOf}
 use Rattle.classifier.proofs.SetLaws.{next-digit, Passed}
 
 -- ---- an edge by its number
@@ -114,7 +113,7 @@ module _ (all : List Polygon) (gs : List Placed) (has : List Bool) where
   pub edge-out : (d : ℕ) → not (getD has d false) ≡ true → none ≡ firstClean all (edgesOf gs has d)
   edge-out d e = rw (not-true (getD has d false) e) refl
 
-  pub edge-of : (d : ℕ) {o : Option Separator} → not (getD has d false) ≡ false → o ≡ firstClean all (edges (cornersOf (getD gs d noPlaced))) → o ≡ firstClean all (edgesOf gs has d)
+  pub edge-of : (d : ℕ) {o : Option Separator} → not (getD has d false) ≡ false → o ≡ firstClean all (edges (placedCorners (getD gs d noPlaced))) → o ≡ firstClean all (edgesOf gs has d)
   edge-of d e k = rw (not-false (getD has d false) e) k
 
   module _ {d : ℕ} (p : Passed (seen all) gs has d) (h : d < 4) where
@@ -132,7 +131,7 @@ empty-is : (gs : List Polygon) → isEmpty gs ≡ eqb (length gs) 0
 empty-is [] = refl
 empty-is (g ∷ gs) = sym (ne-eqb (suc (length gs)) 0 (λ e. let z : ⊥ = omega arith in z))
 
-module _ (s : Separator) (all : List Polygon) {over under : List Polygon} (over-is : over ≡ side true s all) (under-is : under ≡ side false s all) where
+module _ (s : Separator) (all : List Polygon) {over under : List Polygon} (over-is : over ≡ polygonsOn true s all) (under-is : under ≡ polygonsOn false s all) where
   parts : (allUnder s under && not (eqb (length over) 0)) && not (eqb (length under) 0) ≡ clean all s
   parts =
       rw (sym (empty-is over), sym (empty-is under), over-is, under-is) refl

@@ -1,8 +1,8 @@
--- A hull of twelve points has room among 24.
--- Assumes nothing.
+-- How long chains and hulls are: a hull of twelve points has room among 24.
+use mathlib.Core.Path.{refl, _≡_}
 use mathlib.Core.Bool.{Bool, true, false, cond}
 use mathlib.Core.List.{List, [], _∷_, _++_, reverse, tail}
-use Prim.Native.Nat.{ℕ, suc, _+_, _-_, _≤_}
+use Prim.Native.Nat.{_+_, _-_, _≤_}
 use native.Mathlib.Omega.{arith}
 use lib.Dec.{ltb}
 use lib.IntN.{pos}
@@ -12,7 +12,7 @@ use Rattle.turtle.specs.declared.AB.{AB}
 use Rattle.classifier.specs.Hulls.{sorted, cross, popped, chained, half, hull}
 use Rattle.classifier.proofs.HullLaws.{sorted-long}
 
-popped-long : (q : AB) (chain : List AB) → length (popped q chain) ≤ length chain
+pub popped-long : (q : AB) (chain : List AB) → length (popped q chain) ≤ length chain
 unfolding popped
 popped-long q [] = omega arith
 popped-long q (p ∷ []) = omega arith
@@ -27,12 +27,12 @@ unfolding chained
 chained-long chain [] = omega arith
 chained-long chain (q ∷ qs) = omega (arith, chained-long (q ∷ popped q chain) qs, popped-long q chain)
 
-tail-long : {n : ℕ} (l : List AB) → length l ≤ suc n → length (tail l) ≤ n
-tail-long [] h = omega arith
-tail-long (p ∷ l) h = omega arith
+tail-long : (l : List AB) → length (tail l) ≡ length l - 1
+tail-long [] = refl
+tail-long (p ∷ l) = omega arith
 
-half-long : (ps : List AB) → length ps ≤ 12 → length (half ps) ≤ 11
-half-long ps h = omega (arith, length-reverse (tail (chained [] ps)), tail-long {n = 11} (chained [] ps) (omega (arith, chained-long [] ps)))
+pub half-long : (ps : List AB) → length (half ps) ≤ length ps - 1
+half-long ps = rw length-reverse (omega (arith, tail-long (chained [] ps), chained-long [] ps))
 
 pub hull-long : (points : List AB) → length points ≤ 12 → length (hull points) ≤ 24
 unfolding hull
@@ -43,4 +43,4 @@ hull-long points h =
     go : (t : Bool) → length (sorted points) ≤ 12 → length (cond t (sorted points) (half (sorted points) ++ half (reverse (sorted points)))) ≤ 24
     go true few = omega arith
     go false few =
-        omega (arith, length-append (half (sorted points)) (half (reverse (sorted points))), half-long (sorted points) few, half-long (reverse (sorted points)) (omega (arith, length-reverse (sorted points))))
+        omega (arith, length-append (half (sorted points)) (half (reverse (sorted points))), half-long (sorted points), half-long (reverse (sorted points)), length-reverse (sorted points))

@@ -1,9 +1,8 @@
 -- The corners of a placed footprint as the code reads them, and a test of each of them.
--- Assumes nothing.
 use mathlib.Core.Path.{_≡_, refl, sym, ap, ap₂, subst, _∙_}
 use mathlib.Core.Bool.{Bool, true, false, _&&_}
 use mathlib.Core.List.{List, [], _∷_, map}
-use Prim.Native.Nat.{ℕ, zero, suc, _+_, _-_, _<_, _≤_, min}
+use Prim.Native.Nat.{ℕ, zero, suc, _+_, _<_, _≤_, min}
 use native.Mathlib.Nat.{not-suc-le-zero}
 use native.Mathlib.Numerals.{add-one}
 use native.Mathlib.Omega.{arith}
@@ -19,13 +18,13 @@ use Rattle.whole.proofs.Parts.{up, dn, le-parts, parts-le}
 use Rattle.whole.proofs.View.{rd, kept}
 use Rattle.turtle.specs.declared.AB.{AB}
 use Rattle.turtle.specs.Plane.{ab, origin, _⊕_, neg, signed, thrice}
-use Rattle.turtle.specs.Sizes.{Within}
+use Rattle.turtle.specs.Inside.Sizes.{Within}
 use Rattle.turtle.proofs.WalkLaws.{v-small}
 use Rattle.classifier.specs.declared.Corner.{Corner}
 use Rattle.classifier.specs.declared.Hull.{Hull}
 use Rattle.classifier.specs.declared.Placed.{Placed}
-use Rattle.classifier.specs.Parts.{pointOf, pointsOf, cornersOf}
-use Rattle.classifier.specs.Sets.{Close, tripled}
+use Rattle.classifier.specs.Shapes.{pointOf, pointsOf, placedCorners}
+use Rattle.classifier.specs.Inside.Sets.{Close, tripled}
 
 module _ {A B : Type 0} (f : A → B) where
   length-of : (l : List A) → length (map f l) ≡ length l
@@ -56,16 +55,16 @@ count-low h n k = omega (arith, points-count h)
 pub count-high : (h : Hull) → length (h .corners) ≡ 24 → 24 ≤ h .count → 24 ≡ length (pointsOf h)
 count-high h n k = omega (arith, points-count h)
 
-pub corners-count : (g : Placed) → length (pointsOf (g .hull)) ≡ length (cornersOf g)
-unfolding cornersOf
+pub corners-count : (g : Placed) → length (pointsOf (g .hull)) ≡ length (placedCorners g)
+unfolding placedCorners
 corners-count g = sym (length-of (turned g) (pointsOf (g .hull)))
 
-module _ (g : Placed) (i : ℕ) (h : i < length (cornersOf g)) where
+module _ (g : Placed) (i : ℕ) (h : i < length (placedCorners g)) where
   pub corner-place : i < 24
   corner-place = omega (arith, corners-count g, points-count (g .hull))
 
-  pub corner-at : (d : Corner) {p : AB} → p ≡ thrice (pointOf (g .at)) ⊕ thrice (signed (g .flip) (pointOf (getD (g .hull .corners) i d))) → p ≡ getD (cornersOf g) i origin
-  unfolding cornersOf pointsOf
+  pub corner-at : (d : Corner) {p : AB} → p ≡ thrice (pointOf (g .at)) ⊕ thrice (signed (g .flip) (pointOf (getD (g .hull .corners) i d))) → p ≡ getD (placedCorners g) i origin
+  unfolding placedCorners pointsOf
   corner-at d {p} e =
       let m : ℕ = min (g .hull .count) 24 in
       let inside : i < m = omega (arith, corners-count g, points-count (g .hull)) in

@@ -1,5 +1,4 @@
 -- Sets of children, and the loops over their four digits.
--- Assumes nothing.
 use mathlib.Core.Path.{_≡_, refl, sym, ap, _∙_}
 use mathlib.Core.Bool.{Bool, true, false, not, _&&_, cond, Bool·beq}
 use mathlib.Core.List.{List, [], _∷_}
@@ -13,9 +12,9 @@ use borrow.Author.Tests.{not-true, not-false}
 use Rattle.classifier.specs.declared.Placed.{Placed}
 use Rattle.classifier.specs.declared.Separator.{Separator}
 use Rattle.classifier.specs.declared.groups.Group.{Group}
-use Rattle.classifier.specs.Splits.{Polygon, over, under, side, allUnder}
-use Rattle.classifier.specs.Parts.{cornersOf, noPlaced, polygonOf}
-use Rattle.classifier.specs.Sets.{kept, membersFrom, members, onSide, stays, firstDigit}
+use Rattle.classifier.specs.Splits.{Polygon, over, under, polygonsOn, allUnder}
+use Rattle.classifier.specs.Shapes.{placedCorners, noPlaced, polygonOf}
+use Rattle.classifier.specs.Inside.Sets.{kept, membersFrom, members, onSide, stays, firstDigit}
 
 -- ---- one digit more
 pub next-digit : (gs : List Placed) (has : List Bool) {d : ℕ} → d < 4
@@ -75,23 +74,23 @@ on-side false true = refl
 on-side false false = refl
 
 side-kept : (above : Bool) (s : Separator) (b : Bool) (g : Polygon) (gs : List Polygon)
-    → kept (b && onSide above (over s (g .corners))) g (side above s gs) ≡ side above s (kept b g gs)
-unfolding side
+    → kept (b && onSide above (over s (g .corners))) g (polygonsOn above s gs) ≡ polygonsOn above s (kept b g gs)
+unfolding polygonsOn
 side-kept true s false g gs = refl
 side-kept false s false g gs = refl
 side-kept true s true g gs = go (over s (g .corners))
   where
-    go : (t : Bool) → kept t g (side true s gs) ≡ cond t (g ∷ side true s gs) (side true s gs)
+    go : (t : Bool) → kept t g (polygonsOn true s gs) ≡ cond t (g ∷ polygonsOn true s gs) (polygonsOn true s gs)
     go true = refl
     go false = refl
 side-kept false s true g gs = go (over s (g .corners))
   where
-    go : (t : Bool) → kept (not t) g (side false s gs) ≡ cond t (side false s gs) (g ∷ side false s gs)
+    go : (t : Bool) → kept (not t) g (polygonsOn false s gs) ≡ cond t (polygonsOn false s gs) (g ∷ polygonsOn false s gs)
     go true = refl
     go false = refl
 
-side-none : (above : Bool) (s : Separator) → side above s [] ≡ []
-unfolding side
+side-none : (above : Bool) (s : Separator) → polygonsOn above s [] ≡ []
+unfolding polygonsOn
 side-none true s = refl
 side-none false s = refl
 
@@ -99,16 +98,16 @@ module _ (above : Bool) (s : Separator) where
   abbrev stay : Bool → Polygon → List Polygon → List Polygon
   stay b g gs = kept (b && onSide above (over s (g .corners))) g gs
 
-  side-four : (a b c d : Bool) (g h i j : Polygon) → stay a g (stay b h (stay c i (stay d j []))) ≡ side above s (kept a g (kept b h (kept c i (kept d j []))))
+  side-four : (a b c d : Bool) (g h i j : Polygon) → stay a g (stay b h (stay c i (stay d j []))) ≡ polygonsOn above s (kept a g (kept b h (kept c i (kept d j []))))
   side-four a b c d g h i j =
-      let one : stay d j [] ≡ side above s (kept d j []) = ap (stay d j) (sym (side-none above s)) ∙ side-kept above s d j [] in
-      let two : stay c i (stay d j []) ≡ side above s (kept c i (kept d j [])) = ap (stay c i) one ∙ side-kept above s c i (kept d j []) in
-      let three : stay b h (stay c i (stay d j [])) ≡ side above s (kept b h (kept c i (kept d j []))) = ap (stay b h) two ∙ side-kept above s b h (kept c i (kept d j [])) in
+      let one : stay d j [] ≡ polygonsOn above s (kept d j []) = ap (stay d j) (sym (side-none above s)) ∙ side-kept above s d j [] in
+      let two : stay c i (stay d j []) ≡ polygonsOn above s (kept c i (kept d j [])) = ap (stay c i) one ∙ side-kept above s c i (kept d j []) in
+      let three : stay b h (stay c i (stay d j [])) ≡ polygonsOn above s (kept b h (kept c i (kept d j []))) = ap (stay b h) two ∙ side-kept above s b h (kept c i (kept d j [])) in
       ap (stay a g) three ∙ side-kept above s a g (kept b h (kept c i (kept d j [])))
 
   pub side-is : (gs : List Placed) (group : Group) {a b c d : Bool}
       → a ≡ stays above s gs (group .has) 0 → b ≡ stays above s gs (group .has) 1 → c ≡ stays above s gs (group .has) 2 → d ≡ stays above s gs (group .has) 3
-      → members gs (record { has = a ∷ b ∷ c ∷ d ∷ [] }) ≡ side above s (members gs group)
+      → members gs (record { has = a ∷ b ∷ c ∷ d ∷ [] }) ≡ polygonsOn above s (members gs group)
   unfolding membersFrom
   side-is gs group ea eb ec ed =
       rw (ea, eb, ec, ed) (side-four (getD (group .has) 0 false) (getD (group .has) 1 false) (getD (group .has) 2 false) (getD (group .has) 3 false) (polygonOf gs 0) (polygonOf gs 1) (polygonOf gs 2) (polygonOf gs 3))
@@ -147,7 +146,7 @@ pub pass-end : {A : Type 0} (f : List Polygon → A) {gs : List Placed} {has : L
 pass-end f {gs} {has} s h = ap f (sym (no-digit gs has h)) ∙ s .same
 
 module _ (s : Separator) (gs : List Placed) {has : List Bool} {d : ℕ} (p : Passed (allUnder s) gs has d) (h : d < 4) {r : Bool}
-    (r-is : r ≡ getD has d false && not (under s (cornersOf (getD gs d noPlaced)))) where
+    (r-is : r ≡ getD has d false && not (under s (placedCorners (getD gs d noPlaced)))) where
   head : allUnder s (kept (getD has d false) (polygonOf gs d) (membersFrom gs has (4 - (d + 1)) (d + 1))) ≡ not r && allUnder s (membersFrom gs has (4 - (d + 1)) (d + 1))
   head = rw r-is (go (getD has d false) (polygonOf gs d) (membersFrom gs has (4 - (d + 1)) (d + 1)))
     where

@@ -1,5 +1,4 @@
 -- The tree of splits: what it is of a set by what its search found, both sides of a clean line are smaller sets, and a tree of at most four children has at most three lines.
--- Assumes nothing.
 use mathlib.Core.Path.{_≡_, refl, sym, ap, subst, _∙_}
 use mathlib.Core.Bool.{Bool, true, false, not, _&&_, cond}
 use mathlib.Core.List.{List, [], _∷_, _++_}
@@ -11,17 +10,17 @@ use lib.Dec.{T, ltb}
 use lib.ListN.{length, length-append}
 use Rattle.whole.proofs.Bools.{both-left, both-right}
 use Rattle.classifier.specs.declared.Separator.{Separator}
-use Rattle.classifier.specs.Splits.{Polygon, Tree, only, split, stuck, over, allEdges, side, allUnder, isEmpty, clean, firstClean, splitBy, grown, treeOf, index, added, collected}
-use Rattle.classifier.specs.Sets.{firstDigit}
+use Rattle.classifier.specs.Splits.{Polygon, Tree, only, split, stuck, over, allEdges, polygonsOn, allUnder, isEmpty, clean, firstClean, splitBy, treeBy, treeOf, separatorIndex, withSeparator, collected}
+use Rattle.classifier.specs.Inside.Sets.{firstDigit}
 
 -- ---- both sides of a clean line
-side-sum : (s : Separator) (gs : List Polygon) → length (side true s gs) + length (side false s gs) ≡ length gs
-unfolding side
+side-sum : (s : Separator) (gs : List Polygon) → length (polygonsOn true s gs) + length (polygonsOn false s gs) ≡ length gs
+unfolding polygonsOn
 side-sum s [] = omega arith
 side-sum s (g ∷ gs) = go (over s (g .corners)) (side-sum s gs)
   where
-    go : (b : Bool) → length (side true s gs) + length (side false s gs) ≡ length gs
-        → length (cond b (g ∷ side true s gs) (side true s gs)) + length (cond b (side false s gs) (g ∷ side false s gs)) ≡ suc (length gs)
+    go : (b : Bool) → length (polygonsOn true s gs) + length (polygonsOn false s gs) ≡ length gs
+        → length (cond b (g ∷ polygonsOn true s gs) (polygonsOn true s gs)) + length (cond b (polygonsOn false s gs) (g ∷ polygonsOn false s gs)) ≡ suc (length gs)
     go true h = omega arith
     go false h = omega arith
 
@@ -42,28 +41,28 @@ pub record Sides (gs a b : List Polygon) : Type 0 where
   pub second : 0 < length b
   pub sum : length a + length b ≡ length gs
 
-pub sides : {gs : List Polygon} (ss : List Separator) {s : Separator} → some s ≡ firstClean gs ss → Sides gs (side true s gs) (side false s gs)
+pub sides : {gs : List Polygon} (ss : List Separator) {s : Separator} → some s ≡ firstClean gs ss → Sides gs (polygonsOn true s gs) (polygonsOn false s gs)
 sides {gs} ss {s} e =
     let t = clean-of gs ss e in
-    let u = both-left (allUnder s (side false s gs) && not (isEmpty (side true s gs))) (not (isEmpty (side false s gs))) t in
+    let u = both-left (allUnder s (polygonsOn false s gs) && not (isEmpty (polygonsOn true s gs))) (not (isEmpty (polygonsOn false s gs))) t in
     record {
-      first = some-left (side true s gs) (both-right (allUnder s (side false s gs)) (not (isEmpty (side true s gs))) u);
-      second = some-left (side false s gs) (both-right (allUnder s (side false s gs) && not (isEmpty (side true s gs))) (not (isEmpty (side false s gs))) t);
+      first = some-left (polygonsOn true s gs) (both-right (allUnder s (polygonsOn false s gs)) (not (isEmpty (polygonsOn true s gs))) u);
+      second = some-left (polygonsOn false s gs) (both-right (allUnder s (polygonsOn false s gs) && not (isEmpty (polygonsOn true s gs))) (not (isEmpty (polygonsOn false s gs))) t);
       sum = side-sum s gs;
     }
 
 -- ---- the tree of a set
 module _ (again : List Polygon → Tree) where
-  grown-none : (gs : List Polygon) → length gs ≡ 0 → grown again gs ≡ stuck
+  grown-none : (gs : List Polygon) → length gs ≡ 0 → treeBy again gs ≡ stuck
   grown-none [] h = refl
   grown-none (g ∷ gs) h = let z : ⊥ = omega arith in absurd z
 
-  grown-only : (gs : List Polygon) → length gs ≡ 1 → grown again gs ≡ only (firstDigit gs)
+  grown-only : (gs : List Polygon) → length gs ≡ 1 → treeBy again gs ≡ only (firstDigit gs)
   grown-only [] h = let z : ⊥ = omega arith in absurd z
   grown-only (g ∷ []) h = refl
   grown-only (g ∷ (h ∷ gs)) k = let z : ⊥ = omega arith in absurd z
 
-  grown-split : (gs : List Polygon) → 2 ≤ length gs → grown again gs ≡ splitBy again gs (firstClean gs (allEdges gs))
+  grown-split : (gs : List Polygon) → 2 ≤ length gs → treeBy again gs ≡ splitBy again gs (firstClean gs (allEdges gs))
   grown-split [] h = let z : ⊥ = omega arith in absurd z
   grown-split (g ∷ []) h = let z : ⊥ = omega arith in absurd z
   grown-split (g ∷ (h ∷ gs)) k = refl
@@ -93,13 +92,13 @@ module _ (n : ℕ) (gs : List Polygon) where
       go zero = grown-split _ gs h ∙ ap (splitBy (λ _. stuck) gs) (sym e)
       go (suc n) = grown-split _ gs h ∙ ap (splitBy (treeOf n) gs) (sym e)
 
-  pub tree-split : {s : Separator} → 2 ≤ length gs → some s ≡ firstClean gs (allEdges gs) → treeOf (suc n) gs ≡ split s (treeOf n (side true s gs)) (treeOf n (side false s gs))
+  pub tree-split : {s : Separator} → 2 ≤ length gs → some s ≡ firstClean gs (allEdges gs) → treeOf (suc n) gs ≡ split s (treeOf n (polygonsOn true s gs)) (treeOf n (polygonsOn false s gs))
   unfolding treeOf
   tree-split h e = grown-split _ gs h ∙ ap (splitBy (treeOf n) gs) (sym e)
 
 -- ---- how many lines it has
-pub added-long : (ss : List Separator) (s : Separator) → length (added ss s) ≤ suc (length ss)
-added-long ss s = go (ltb (index ss s) (length ss))
+pub added-long : (ss : List Separator) (s : Separator) → length (withSeparator ss s) ≤ suc (length ss)
+added-long ss s = go (ltb (separatorIndex ss s) (length ss))
   where
     go : (b : Bool) → length (cond b ss (ss ++ (s ∷ []))) ≤ suc (length ss)
     go true = omega arith
@@ -114,9 +113,9 @@ unfolding collected
 few-split again k gs ss none e h = omega arith
 few-split again k gs ss (some s) e h =
     let d = sides (allEdges gs) e in
-    omega (arith, d .sum, added-long ss s, k (side true s gs) (added ss s) (d .first), k (side false s gs) (collected (added ss s) (again (side true s gs))) (d .second))
+    omega (arith, d .sum, added-long ss s, k (polygonsOn true s gs) (withSeparator ss s) (d .first), k (polygonsOn false s gs) (collected (withSeparator ss s) (again (polygonsOn true s gs))) (d .second))
 
-few-grown : (again : List Polygon → Tree) → Few again → Few (grown again)
+few-grown : (again : List Polygon → Tree) → Few again → Few (treeBy again)
 unfolding collected
 few-grown again k [] ss h = absurd (not-suc-le-zero h)
 few-grown again k (g ∷ []) ss h = omega arith

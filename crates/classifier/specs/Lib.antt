@@ -1,4 +1,4 @@
 pub mod Hulls
 pub mod Splits
-pub mod Parts
-pub mod Sets
+pub mod Shapes
+pub mod Inside

@@ -8,7 +8,7 @@ use lib.IntN.{ℤ, pos, negℤ, _+ℤ_, _-ℤ_, _*ℤ_}
 use lib.Signed.{leZ}
 use lib.ListN.{length}
 use Rattle.turtle.specs.declared.AB.{AB}
-use Rattle.turtle.specs.Plane.{equal}
+use Rattle.whole.specs.Tests.{equal}
 use Rattle.classifier.specs.declared.Separator.{Separator}
 
 -- ---- a child of a state: its digit, and the hull of its footprint, three times as large
@@ -49,10 +49,10 @@ under s [] = true
 under s (p ∷ ps) = leZ (value s p) (pos 0) && under s ps
 
 -- the polygons over the line, or those not over it
-unfoldable pub side : Bool → Separator → List Polygon → List Polygon
-side b s [] = []
-side true s (g ∷ gs) = cond (over s (g .corners)) (g ∷ side true s gs) (side true s gs)
-side false s (g ∷ gs) = cond (over s (g .corners)) (side false s gs) (g ∷ side false s gs)
+unfoldable pub polygonsOn : Bool → Separator → List Polygon → List Polygon
+polygonsOn b s [] = []
+polygonsOn true s (g ∷ gs) = cond (over s (g .corners)) (g ∷ polygonsOn true s gs) (polygonsOn true s gs)
+polygonsOn false s (g ∷ gs) = cond (over s (g .corners)) (polygonsOn false s gs) (g ∷ polygonsOn false s gs)
 
 abbrev pub isEmpty : List Polygon → Bool
 isEmpty [] = true
@@ -63,7 +63,7 @@ allUnder s [] = true
 allUnder s (g ∷ gs) = under s (g .corners) && allUnder s gs
 
 abbrev pub clean : List Polygon → Separator → Bool
-clean gs s = allUnder s (side false s gs) && not (isEmpty (side true s gs)) && not (isEmpty (side false s gs))
+clean gs s = allUnder s (polygonsOn false s gs) && not (isEmpty (polygonsOn true s gs)) && not (isEmpty (polygonsOn false s gs))
 
 abbrev pub firstClean : List Polygon → List Separator → Option Separator
 firstClean gs [] = none
@@ -77,17 +77,17 @@ pub data Tree : Type 0 where
 
 abbrev pub splitBy : (List Polygon → Tree) → List Polygon → Option Separator → Tree
 splitBy again gs none = stuck
-splitBy again gs (some s) = split s (again (side true s gs)) (again (side false s gs))
+splitBy again gs (some s) = split s (again (polygonsOn true s gs)) (again (polygonsOn false s gs))
 
-abbrev pub grown : (List Polygon → Tree) → List Polygon → Tree
-grown again [] = stuck
-grown again (g ∷ []) = only (g .digit)
-grown again (g ∷ (h ∷ gs)) = splitBy again (g ∷ h ∷ gs) (firstClean (g ∷ h ∷ gs) (allEdges (g ∷ h ∷ gs)))
+abbrev pub treeBy : (List Polygon → Tree) → List Polygon → Tree
+treeBy again [] = stuck
+treeBy again (g ∷ []) = only (g .digit)
+treeBy again (g ∷ (h ∷ gs)) = splitBy again (g ∷ h ∷ gs) (firstClean (g ∷ h ∷ gs) (allEdges (g ∷ h ∷ gs)))
 
 -- of a set of at most `most` children and one
 unfoldable pub treeOf : ℕ → List Polygon → Tree
-treeOf zero gs = grown (λ _. stuck) gs
-treeOf (suc most) gs = grown (treeOf most) gs
+treeOf zero gs = treeBy (λ _. stuck) gs
+treeOf (suc most) gs = treeBy (treeOf most) gs
 
 unfoldable pub whole : Tree → Bool
 whole (only d) = true
@@ -95,19 +95,19 @@ whole (split s t u) = whole t && whole u
 whole stuck = false
 
 -- ---- its separators in order, each once, and the child for a pattern of sides: bit i is 1 on the side over separator i
-abbrev pub same : Separator → Separator → Bool
-same s t = equal (s .x) (t .x) && equal (s .y) (t .y) && equal (s .c) (t .c)
+abbrev pub sameSeparator : Separator → Separator → Bool
+sameSeparator s t = equal (s .x) (t .x) && equal (s .y) (t .y) && equal (s .c) (t .c)
 
-abbrev pub index : List Separator → Separator → ℕ
-index [] s = 0
-index (t ∷ ts) s = cond (same t s) 0 (suc (index ts s))
+abbrev pub separatorIndex : List Separator → Separator → ℕ
+separatorIndex [] s = 0
+separatorIndex (t ∷ ts) s = cond (sameSeparator t s) 0 (suc (separatorIndex ts s))
 
-abbrev pub added : List Separator → Separator → List Separator
-added ss s = cond (ltb (index ss s) (length ss)) ss (ss ++ (s ∷ []))
+abbrev pub withSeparator : List Separator → Separator → List Separator
+withSeparator ss s = cond (ltb (separatorIndex ss s) (length ss)) ss (ss ++ (s ∷ []))
 
 unfoldable pub collected : List Separator → Tree → List Separator
 collected ss (only d) = ss
-collected ss (split s t u) = collected (collected (added ss s) t) u
+collected ss (split s t u) = collected (collected (withSeparator ss s) t) u
 collected ss stuck = ss
 
 unfoldable pub separators : Tree → List Separator
@@ -115,5 +115,5 @@ separators t = collected [] t
 
 unfoldable pub choice : List Separator → ℕ → Tree → ℕ
 choice ss pattern (only d) = d
-choice ss pattern (split s t u) = cond (eqb (pattern / 2 ^ index ss s % 2) 1) (choice ss pattern t) (choice ss pattern u)
+choice ss pattern (split s t u) = cond (eqb (pattern / 2 ^ separatorIndex ss s % 2) 1) (choice ss pattern t) (choice ss pattern u)
 choice ss pattern stuck = 0

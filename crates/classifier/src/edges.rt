@@ -3,11 +3,11 @@
 ghost use mathlib.Core.Path.{_≡_};
 ghost use Prim.Native.Nat.{_<_};
 ghost use lib.ListN.{length, getD};
-ghost use Rattle.turtle.specs.Sizes.{Within};
+ghost use Rattle.turtle.specs.Inside.Sizes.{Within};
 ghost use Rattle.turtle.specs.Plane.{origin, _⊕_, signed, thrice};
 ghost use Rattle.classifier.specs.Splits.{lineThrough, value, over, under};
-ghost use Rattle.classifier.specs.Parts.{pointOf, pointsOf, cornersOf};
-ghost use Rattle.classifier.specs.Sets.{Close, tripled, edgeAt};
+ghost use Rattle.classifier.specs.Shapes.{pointOf, pointsOf, placedCorners};
+ghost use Rattle.classifier.specs.Inside.Sets.{Close, tripled, edgeAt};
 use crate::Corner;
 use crate::Hull;
 use crate::Placed;
@@ -22,7 +22,7 @@ fn point_count(h: Hull) -> usize
 }
 
 pub(crate) fn corner_count(g: Placed) -> usize
-    ensures { λ n. ⌜ n ≡ length (cornersOf g) ⌝ }
+    ensures { λ n. ⌜ n ≡ length (placedCorners g) ⌝ }
 {
     point_count(g.hull)
 }
@@ -43,8 +43,8 @@ fn placed(at: Corner, flip: bool, p: Corner) -> AB
 }
 
 fn corner_of(g: Placed, i: usize) -> AB
-    requires { ⌜ i < length (cornersOf g) ⌝ }
-    ensures { λ p. ⌜ (p ≡ getD (cornersOf g) i origin) × Close p ⌝ }
+    requires { ⌜ i < length (placedCorners g) ⌝ }
+    ensures { λ p. ⌜ (p ≡ getD (placedCorners g) i origin) × Close p ⌝ }
 {
     let hull = g.hull;
     let corners = hull.corners;
@@ -79,7 +79,7 @@ fn value(s: Separator, p: AB) -> i64
 }
 
 pub(crate) fn is_over(s: Separator, g: Placed) -> bool
-    ensures { λ r. ⌜ r ≡ over s (cornersOf g) ⌝ }
+    ensures { λ r. ⌜ r ≡ over s (placedCorners g) ⌝ }
 {
     let n = corner_count(g);
     let mut i = 0;
@@ -93,7 +93,7 @@ pub(crate) fn is_over(s: Separator, g: Placed) -> bool
 }
 
 pub(crate) fn is_under(s: Separator, g: Placed) -> bool
-    ensures { λ r. ⌜ r ≡ under s (cornersOf g) ⌝ }
+    ensures { λ r. ⌜ r ≡ under s (placedCorners g) ⌝ }
 {
     let n = corner_count(g);
     let mut i = 0;
@@ -108,8 +108,8 @@ pub(crate) fn is_under(s: Separator, g: Placed) -> bool
 
 // The edge from a corner to the next, and from the last to the first.
 pub(crate) fn edge(g: Placed, i: usize) -> Separator
-    requires { ⌜ i < length (cornersOf g) ⌝ }
-    ensures { λ s. ⌜ s ≡ edgeAt (cornersOf g) i ⌝ }
+    requires { ⌜ i < length (placedCorners g) ⌝ }
+    ensures { λ s. ⌜ s ≡ edgeAt (placedCorners g) i ⌝ }
 {
     let n = corner_count(g);
     if i + 1 < n {

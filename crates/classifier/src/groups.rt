@@ -6,9 +6,9 @@ ghost use mathlib.Core.List.{List};
 ghost use Prim.Native.Nat.{_<_};
 ghost use lib.ListN.{length, getD};
 ghost use Rattle.classifier.specs.declared.Placed.{Placed};
-ghost use Rattle.classifier.specs.Splits.{edges, allEdges, under, side, allUnder, clean, firstClean};
-ghost use Rattle.classifier.specs.Parts.{cornersOf, noPlaced};
-ghost use Rattle.classifier.specs.Sets.{stays, members, edgesOf, firstDigit, foundLine};
+ghost use Rattle.classifier.specs.Splits.{edges, allEdges, under, polygonsOn, allUnder, clean, firstClean};
+ghost use Rattle.classifier.specs.Shapes.{placedCorners, noPlaced};
+ghost use Rattle.classifier.specs.Inside.Sets.{stays, members, edgesOf, firstDigit, foundLine};
 use crate::Placed;
 use crate::Separator;
 use crate::edges::corner_count;
@@ -21,7 +21,7 @@ pub(crate) struct Group {
     pub has: [bool; 4],
 }
 
-pub(crate) enum Found {
+pub(crate) enum FoundLine {
     Line(Separator),
     Nothing,
 }
@@ -39,8 +39,8 @@ fn stays(above: bool, s: Separator, children: [Placed; 4], group: Group, d: usiz
 }
 
 // The children of a set that are over the line, or those that are not.
-pub(crate) fn side(above: bool, s: Separator, children: [Placed; 4], group: Group) -> Group
-    ensures { λ r. ⌜ members children r ≡ side above s (members children group) ⌝ }
+pub(crate) fn group_on(above: bool, s: Separator, children: [Placed; 4], group: Group) -> Group
+    ensures { λ r. ⌜ members children r ≡ polygonsOn above s (members children group) ⌝ }
 {
     Group {
         has: [
@@ -92,7 +92,7 @@ pub(crate) fn first_digit(group: Group) -> u8
 // Whether a child is of a set, and not under the line.
 fn is_off(s: Separator, children: [Placed; 4], group: Group, d: usize) -> bool
     requires { ⌜ d < 4 ⌝ }
-    ensures { λ r. ⌜ r ≡ getD (group .has) d false && not (under s (cornersOf (getD children d noPlaced))) ⌝ }
+    ensures { λ r. ⌜ r ≡ getD (group .has) d false && not (under s (placedCorners (getD children d noPlaced))) ⌝ }
 {
     let has = group.has;
     if !has[d] {
@@ -118,8 +118,8 @@ fn all_under(s: Separator, children: [Placed; 4], group: Group) -> bool
 fn is_clean(s: Separator, children: [Placed; 4], group: Group) -> bool
     ensures { λ r. ⌜ r ≡ clean (members children group) s ⌝ }
 {
-    let over = side(true, s, children, group);
-    let under = side(false, s, children, group);
+    let over = group_on(true, s, children, group);
+    let under = group_on(false, s, children, group);
     if !all_under(s, children, under) {
         return false;
     }
@@ -130,43 +130,43 @@ fn is_clean(s: Separator, children: [Placed; 4], group: Group) -> bool
 }
 
 // The first edge of one footprint that splits the set.
-fn clean_edge(g: Placed, children: [Placed; 4], group: Group) -> Found
-    ensures { λ r. ⌜ foundLine r ≡ firstClean (members children group) (edges (cornersOf g)) ⌝ }
+fn clean_edge(g: Placed, children: [Placed; 4], group: Group) -> FoundLine
+    ensures { λ r. ⌜ foundLine r ≡ firstClean (members children group) (edges (placedCorners g)) ⌝ }
 {
     let n = corner_count(g);
     let mut i = 0;
     while i < n {
         let s = edge(g, i);
         if is_clean(s, children, group) {
-            return Found::Line(s);
+            return FoundLine::Line(s);
         }
         i += 1;
     }
-    Found::Nothing
+    FoundLine::Nothing
 }
 
 // The first edge of a child's footprint that splits the set, where the child is of the set.
-fn clean_edge_of(children: [Placed; 4], group: Group, d: usize) -> Found
+fn clean_edge_of(children: [Placed; 4], group: Group, d: usize) -> FoundLine
     requires { ⌜ d < 4 ⌝ }
     ensures { λ r. ⌜ foundLine r ≡ firstClean (members children group) (edgesOf children (group .has) d) ⌝ }
 {
     let has = group.has;
     if !has[d] {
-        return Found::Nothing;
+        return FoundLine::Nothing;
     }
     clean_edge(children[d], children, group)
 }
 
 // The first edge of the set's footprints that splits the set.
-pub(crate) fn first_clean(children: [Placed; 4], group: Group) -> Found
+pub(crate) fn first_clean(children: [Placed; 4], group: Group) -> FoundLine
     ensures { λ r. ⌜ foundLine r ≡ firstClean (members children group) (allEdges (members children group)) ⌝ }
 {
     let mut d = 0;
     while d < 4 {
-        if let Found::Line(s) = clean_edge_of(children, group, d) {
-            return Found::Line(s);
+        if let FoundLine::Line(s) = clean_edge_of(children, group, d) {
+            return FoundLine::Line(s);
         }
         d += 1;
     }
-    Found::Nothing
+    FoundLine::Nothing
 }

@@ -6,17 +6,17 @@ ghost use mathlib.Core.List.{[]};
 ghost use Prim.Native.Nat.{_+_, _/_, _%_, _^_, _<_, _≤_};
 ghost use lib.Dec.{eqb};
 ghost use lib.ListN.{length};
-ghost use Rattle.classifier.specs.Splits.{same, index, added};
-ghost use Rattle.classifier.specs.Parts.{polygonsOf, classifierOf};
-ghost use Rattle.classifier.specs.Sets.{members, gatheredBy, linesOf, Kept, Through, Led};
+ghost use Rattle.classifier.specs.Splits.{sameSeparator, separatorIndex, withSeparator};
+ghost use Rattle.classifier.specs.Shapes.{polygonsOf, classifierOf};
+ghost use Rattle.classifier.specs.Inside.Sets.{members, gatheredBy, gatheredLines, Kept, Through, Led};
 use crate::Classifier;
 use crate::Placed;
 use crate::Separator;
-use crate::groups::Found;
+use crate::groups::FoundLine;
 use crate::groups::Group;
 use crate::groups::first_clean;
 use crate::groups::first_digit;
-use crate::groups::side;
+use crate::groups::group_on;
 use crate::groups::size;
 
 // The lines met so far, each once, those unused zero. `whole` where each set met was split.
@@ -27,7 +27,7 @@ struct Gathered {
 }
 
 fn is_same(s: Separator, t: Separator) -> bool
-    ensures { λ r. ⌜ r ≡ same s t ⌝ }
+    ensures { λ r. ⌜ r ≡ sameSeparator s t ⌝ }
 {
     if s.x != t.x {
         return false;
@@ -41,7 +41,7 @@ fn is_same(s: Separator, t: Separator) -> bool
 // Where a line stands among those gathered; their count where it is none of them.
 fn index_of(g: Gathered, s: Separator) -> usize
     requires { ⌜ Kept g ⌝ }
-    ensures { λ i. ⌜ i ≡ index (linesOf g) s ⌝ }
+    ensures { λ i. ⌜ i ≡ separatorIndex (gatheredLines g) s ⌝ }
 {
     let lines = g.lines;
     let n = g.count;
@@ -66,9 +66,9 @@ fn no_lines() -> Gathered
 }
 
 // One line more, if it is not among those gathered.
-fn added(g: Gathered, s: Separator) -> Gathered
+fn with_separator(g: Gathered, s: Separator) -> Gathered
     requires { ⌜ Kept g × (g .count < 3) ⌝ }
-    ensures { λ r. ⌜ r ≡ gatheredBy (added (linesOf g) s) (g .whole) ⌝ }
+    ensures { λ r. ⌜ r ≡ gatheredBy (withSeparator (gatheredLines g) s) (g .whole) ⌝ }
 {
     let n = g.count;
     if index_of(g, s) < n {
@@ -86,7 +86,7 @@ fn added(g: Gathered, s: Separator) -> Gathered
 // A set was met that no edge splits.
 fn broken(g: Gathered) -> Gathered
     requires { ⌜ Kept g ⌝ }
-    ensures { λ r. ⌜ r ≡ gatheredBy (linesOf g) false ⌝ }
+    ensures { λ r. ⌜ r ≡ gatheredBy (gatheredLines g) false ⌝ }
 {
     let lines = g.lines;
     Gathered {
@@ -108,12 +108,12 @@ fn gather(children: [Placed; 4], group: Group, so_far: Gathered) -> Gathered
     if n == 1 {
         return so_far;
     }
-    let Found::Line(s) = first_clean(children, group) else {
+    let FoundLine::Line(s) = first_clean(children, group) else {
         return broken(so_far);
     };
-    let more = added(so_far, s);
-    let over = gather(children, side(true, s, children, group), more);
-    gather(children, side(false, s, children, group), over)
+    let more = with_separator(so_far, s);
+    let over = gather(children, group_on(true, s, children, group), more);
+    gather(children, group_on(false, s, children, group), over)
 }
 
 // Bit i of a pattern.
@@ -127,7 +127,7 @@ fn bit(pattern: u8, i: usize) -> bool
 // The child of a set that a pattern of sides leads to: bit i is 1 on the side over line i.
 fn choose(children: [Placed; 4], group: Group, found: Gathered, pattern: u8) -> u8
     requires { ⌜ Kept found ⌝ }
-    ensures { λ d. ⌜ Led (members children group) (linesOf found) pattern d ⌝ }
+    ensures { λ d. ⌜ Led (members children group) (gatheredLines found) pattern d ⌝ }
 {
     let n = size(group);
     if n == 0 {
@@ -136,11 +136,16 @@ fn choose(children: [Placed; 4], group: Group, found: Gathered, pattern: u8) -> 
     if n == 1 {
         return first_digit(group);
     }
-    let Found::Line(s) = first_clean(children, group) else {
+    let FoundLine::Line(s) = first_clean(children, group) else {
         return 0;
     };
     let above = bit(pattern, index_of(found, s));
-    choose(children, side(above, s, children, group), found, pattern)
+    choose(
+        children,
+        group_on(above, s, children, group),
+        found,
+        pattern,
+    )
 }
 
 // The classifier of a state's four children.

@@ -1,5 +1,4 @@
 -- A code in arithmetic: its first byte is of the orientation and the resolution, and the others are the bytes of the position, moved up past the spare bits.
--- Assumes nothing.
 use mathlib.Core.Path.{_≡_, sym, ap, _∙_}
 use mathlib.Core.List.{List, _∷_, _++_, append-assoc}
 use Prim.Native.Nat.{ℕ, suc, _+_, _-_, _*_, _/_, _%_, _^_, _<_, _≤_}

@@ -1,5 +1,4 @@
 -- Each contract on codes allows one result alone: one answer, and for the writer one buffer. What an answer says has a left inverse: so two answers that say the same are the same.
--- Assumes nothing.
 use mathlib.Core.Path.{_≡_, refl, sym, ap, _∙_}
 use mathlib.Core.List.{List}
 use Prim.Native.Nat.{ℕ}

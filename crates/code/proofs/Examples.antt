@@ -1,6 +1,6 @@
 -- Worked examples of document 01 on the position code, by computation.
 use mathlib.Core.Path.{_≡_, refl}
-use mathlib.Core.List.{List, [], _∷_}
+use mathlib.Core.List.{[], _∷_}
 use Prim.Native.Nat.{ℕ, _-_, _^_}
 use Rattle.triple.specs.Refusals.{Told, told, refused, numberOf}
 use Rattle.code.specs.declared.Reading.{Reading}

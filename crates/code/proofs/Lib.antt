@@ -1,8 +1,19 @@
+-- ---- bits and bytes, in arithmetic
+-- bits and the numbers that they write
 pub mod BitLaws
+-- bytes and their bits, and bytes joined one after another
 pub mod ByteLaws
+-- ---- the code
+-- its bytes, as numbers
 pub mod CodeLaws
+-- the writer at each of its tests, and the loop that writes
 pub mod WriteLaws
+-- the reader at each of its tests
 pub mod ReadLaws
+-- what is written is read back
 pub mod RoundTrip
+-- ---- all operations
+-- each contract allows one result alone
 pub mod Determined
+-- worked examples
 pub mod Examples

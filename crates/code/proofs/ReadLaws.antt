@@ -1,16 +1,22 @@
 -- What a reader answers, in arithmetic: the first byte tells the orientation and the resolution, and the bytes after it, joined, the position above the spare bits.
--- Assumes nothing.
 use mathlib.Core.Path.{_≡_, refl, sym, ap, ap₂, _∙_}
 use mathlib.Core.List.{List, [], _∷_, _++_, append-assoc}
 use Prim.Native.Nat.{ℕ, _+_, _-_, _*_, _/_, _%_, _^_, _≤_, _<_}
 use native.Mathlib.Omega.{arith}
 use lib.Dec.{ltb}
-use lib.ListN.{length, take, drop, getD, take-append-drop, length-drop}
+use lib.ListN.{length, take, drop, getD, take-append-drop, length-take, length-drop}
+use mir.Syntax.{w8}
+use mir.Val.{Fits}
 use lib.Pow.{field}
 use lib.Seq.{drop-at, length-take-le}
 use borrow.Author.Tests.{le-ltb, lt-ltb, eq-eqb, ne-eqb}
+use Rattle.triple.specs.declared.domain.DomainAnswer.{DomainAnswer}
+use Rattle.triple.specs.declared.refusal.Refusal.{Refusal}
 use Rattle.triple.specs.declared.refusal.Refusal.the-variants as Is
 use Rattle.triple.specs.Refusals.{Told, told, refused, refuse, numberOf}
+use Rattle.triple.specs.Domain.{inDomain, domainOf}
+use Rattle.triple.specs.Answers.{saidDomain}
+use Rattle.triple.proofs.DomainLaws.{out-of-domain, in-domain, shallow}
 use Rattle.code.specs.declared.Reading.{Reading}
 use Rattle.code.specs.Codes.{bitsOf, valueOf, allBits, codeLength, readOf}
 use Rattle.code.proofs.BitLaws.{length-bits, bits-split, value-whole, value-front}
@@ -53,16 +59,24 @@ position-at r bytes used u l v spare e f =
     let n : used - 1 ≡ positionBytes r = omega arith in
     rw (e, f, n) (position-read r (drop 1 bytes) (rw length-drop (omega arith)))
 
+-- ---- the bytes after the first, of a code that takes `used` of them
+pub after-first : (r : ℕ) {used : ℕ} → used ≡ codeLength r → 1 ≤ used
+unfolding codeLength
+after-first r e = omega arith
+
+pub few-bytes : (bytes : List ℕ) (r : ℕ) {used : ℕ} → used ≡ codeLength r → (o : ℕ) {a : DomainAnswer} → saidDomain a ≡ domainOf o r → a ≡ DomainAnswer.In → length (take (used - 1) (drop 1 bytes)) ≤ 8
+unfolding codeLength
+few-bytes bytes r e o ea m = simp (length-take, length-drop) (omega (arith, shallow o r _ ea m))
+
 -- ---- its answers, from what it has in hand
 -- the tests after the first, by the first byte
 fromFirst : ℕ → List ℕ → Told Reading
 fromFirst b bytes =
-    refuse (ltb 30 (b % 32)) Is.Resolution
-    (refuse (ltb 5 (b / 32)) Is.Orientation
+    inDomain (b / 32) (b % 32)
     (refuse (ltb (length bytes) (codeLength (b % 32))) Is.Code
-    (told (record { orientation = b / 32; resolution = b % 32; s = valueOf (take (2 * (b % 32)) (allBits (drop 1 bytes))); used = codeLength (b % 32) }))))
+    (told (record { orientation = b / 32; resolution = b % 32; s = valueOf (take (2 * (b % 32)) (allBits (drop 1 bytes))); used = codeLength (b % 32) })))
 
-read-first : (bytes : List ℕ) → (length bytes ≡ 0 → ⊥) → getD bytes 0 0 < 256 → readOf bytes ≡ fromFirst (getD bytes 0 0) bytes
+read-first : (bytes : List ℕ) → (length bytes ≡ 0 → ⊥) → getD bytes 0 0 < 256 → fromFirst (getD bytes 0 0) bytes ≡ readOf bytes
 unfolding readOf fromFirst allBits
 read-first [] some small = absurd (some refl)
 read-first (b ∷ rest) some small =
@@ -73,26 +87,24 @@ module _ (bytes : List ℕ) where
   unfolding readOf
   read-empty h = simp (eq-eqb _ _ h)
 
-  module _ (some : length bytes ≡ 0 → ⊥) (small : getD bytes 0 0 < 256) where
-    pub read-deep : 30 < getD bytes 0 0 % 32 → refused (numberOf Is.Resolution) ≡ readOf bytes
+  module _ (some : length bytes ≡ 0 → ⊥) (small : (i : ℕ) → Fits w8 (getD bytes i 0)) {a : DomainAnswer} (ea : saidDomain a ≡ domainOf (getD bytes 0 0 / 32) (getD bytes 0 0 % 32)) where
+    pub read-outside : {e : Refusal} → a ≡ DomainAnswer.Refused e → refused (numberOf e) ≡ readOf bytes
     unfolding fromFirst
-    read-deep h = rw (read-first bytes some small) (simp (lt-ltb _ _ h))
+    read-outside m = out-of-domain (getD bytes 0 0 / 32) (getD bytes 0 0 % 32) a ea _ m ∙ read-first bytes some (small 0 .fits)
 
-    pub read-unoriented : getD bytes 0 0 % 32 ≤ 30 → 5 < getD bytes 0 0 / 32 → refused (numberOf Is.Orientation) ≡ readOf bytes
-    unfolding fromFirst
-    read-unoriented h p = rw (read-first bytes some small) (simp (le-ltb _ _ h, lt-ltb _ _ p))
-
-    module _ (shallow : getD bytes 0 0 % 32 ≤ 30) (oriented : getD bytes 0 0 / 32 ≤ 5) (used : ℕ) (length-is : used ≡ codeLength (getD bytes 0 0 % 32)) where
+    module _ (m : a ≡ DomainAnswer.In) {used : ℕ} (length-is : used ≡ codeLength (getD bytes 0 0 % 32)) where
       pub read-cut : length bytes < used → refused (numberOf Is.Code) ≡ readOf bytes
       unfolding fromFirst
-      read-cut l = rw (read-first bytes some small) (simp (le-ltb _ _ shallow, le-ltb _ _ oriented, lt-ltb _ _ (rw length-is at l)))
+      read-cut l = simp (lt-ltb _ _ (rw length-is at l)) (in-domain (getD bytes 0 0 / 32) (getD bytes 0 0 % 32) a ea m _) ∙ read-first bytes some (small 0 .fits)
 
-      pub read-whole : used ≤ length bytes → (v spare : ℕ) → v ≡ valueOf (allBits (take (used - 1) (drop 1 bytes))) → spare ≡ spareBits (getD bytes 0 0 % 32)
+      pub read-whole : used ≤ length bytes → {v spare : ℕ} → v ≡ valueOf (allBits (take (used - 1) (drop 1 bytes))) → spare ≡ spareBits (getD bytes 0 0 % 32)
           → told (record { orientation = getD bytes 0 0 / 32; resolution = getD bytes 0 0 % 32; s = v / 2 ^ spare; used = used }) ≡ readOf bytes
       unfolding fromFirst
-      read-whole l v spare e f =
-          rw (read-first bytes some small)
-          (simp (le-ltb _ _ shallow, le-ltb _ _ oriented, le-ltb _ _ (rw length-is at l))
-          (ap₂ {C = Told Reading} (λ (p n : ℕ). told (record { orientation = getD bytes 0 0 / 32; resolution = getD bytes 0 0 % 32; s = p; used = n }))
-          (position-at (getD bytes 0 0 % 32) bytes used length-is l v spare e f)
-          length-is))
+      read-whole l e f =
+          ap₂ {C = Told Reading} (λ (p n : ℕ). told (record { orientation = getD bytes 0 0 / 32; resolution = getD bytes 0 0 % 32; s = p; used = n }))
+          (position-at (getD bytes 0 0 % 32) bytes used length-is l _ _ e f)
+          length-is
+          ∙ simp (le-ltb _ _ (rw length-is at l)) (in-domain (getD bytes 0 0 / 32) (getD bytes 0 0 % 32) a ea m _)
+          ∙ read-first bytes some (small 0 .fits)
+
+pub ruleset reading = (after-first, few-bytes, read-empty, read-outside, read-cut, read-whole)

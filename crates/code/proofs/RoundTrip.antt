@@ -1,5 +1,4 @@
 -- What is written is read back: a code's bytes have the code's bits, and the reader cuts them where the writer joined them.
--- Assumes nothing.
 use mathlib.Core.Path.{_≡_, refl, sym, ap, _∙_}
 use mathlib.Core.Bool.{Bool, true, false}
 use mathlib.Core.List.{List, _++_, append-assoc}
@@ -14,6 +13,9 @@ use Rattle.whole.proofs.Powers.{four-by-shift}
 use Rattle.triple.specs.declared.refusal.Refusal.{Refusal}
 use Rattle.triple.specs.declared.refusal.Refusal.the-variants as Is
 use Rattle.triple.specs.Refusals.{Told, told, refuse}
+use Rattle.triple.specs.Domain.{greatestResolution, greatestOrientation}
+use Rattle.triple.proofs.DomainLaws.{domain-in}
+use Rattle.triple.proofs.RefusalLaws.{passed}
 use Rattle.code.specs.Codes.{bitsOf, valueOf, allBits, codeLength, codeBits, codeBytes, written, writeOf, afterWrite, readOf}
 use Rattle.code.proofs.BitLaws.{length-bits, value-front}
 use Rattle.code.proofs.ByteLaws.{all-bits-append, bits-of-byte, bits-of-bytes}
@@ -59,21 +61,17 @@ module _ (o r s : ℕ) (rest : List ℕ) where
       → readOf (codeBytes o r s ++ rest) ≡ told (record { orientation = o; resolution = r; s = s; used = codeLength r })
   unfolding readOf
   read-back ho hr hs =
-      rw (orientation-back ho, resolution-back hr, position-back hs) (simp (ne-eqb _ _ (long .0), le-ltb 30 r hr, le-ltb 5 o ho, le-ltb _ _ (long .1)))
+      rw (orientation-back ho, resolution-back hr, position-back hs) (simp (ne-eqb _ _ (long .0), le-ltb _ _ (long .1)) (sym (domain-in o r _ hr ho)))
 
 -- ---- over a buffer: what a writer has answered is what a reader finds
-passed : {A : Type 0} (test : Bool) (e : Refusal) (t : Told A) (a : A) → refuse test e t ≡ told a → (test ≡ false) × (t ≡ told a)
-passed true e t a p = let z : _≡_ {A = ℕ} 0 1 = cc in let none : ⊥ = omega arith in absurd none
-passed false e t a p = (refl, p)
-
 pub written-read-back : (o r s : ℕ) (buffer : List ℕ) (n : ℕ) → writeOf o r s buffer ≡ told n
     → readOf (afterWrite o r s buffer) ≡ told (record { orientation = o; resolution = r; s = s; used = n })
 unfolding writeOf afterWrite
 written-read-back o r s buffer n p =
-    let shallow = passed (ltb 30 r) Is.Resolution _ n p in
-    let oriented = passed (ltb 5 o) Is.Orientation _ n (shallow .1) in
-    let named = passed (leb (4 ^ r) s) Is.Position _ n (oriented .1) in
-    let room = passed (ltb (length buffer) (codeLength r)) Is.Room (told (codeLength r)) n (named .1) in
+    let shallow = passed (ltb greatestResolution r) Is.Resolution p in
+    let oriented = passed (ltb greatestOrientation o) Is.Orientation (shallow .1) in
+    let named = passed (leb (4 ^ r) s) Is.Position (oriented .1) in
+    let room = passed (ltb (length buffer) (codeLength r)) Is.Room (named .1) in
     let count : codeLength r ≡ n = cc (room .1) in
     ap (λ (a : Told ℕ). readOf (written (codeBytes o r s) buffer a)) p
     ∙ read-back o r s (drop n buffer) (ltb-false 5 o (oriented .0)) (ltb-false 30 r (shallow .0)) (leb-false (4 ^ r) s (named .0))

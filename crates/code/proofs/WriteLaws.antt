@@ -1,44 +1,87 @@
--- What a writer answers, and its buffer afterwards, at each of its tests.
--- Assumes nothing.
-use mathlib.Core.Path.{_≡_, ap}
+-- What a writer answers, and its buffer afterwards, at each of its tests, in the form of what the code has in hand there; and the loop that writes.
+use mathlib.Core.Path.{_≡_, refl, ap, _∙_}
 use mathlib.Core.List.{List, _++_}
-use Prim.Native.Nat.{ℕ, _^_, _≤_, _<_}
-use lib.ListN.{length, drop}
+use Prim.Native.Nat.{ℕ, _+_, _^_, _≤_, _<_}
+use native.Mathlib.Omega.{arith}
+use lib.ListN.{length, drop, getD, set, length-set}
 use borrow.Author.Tests.{le-ltb, lt-ltb, le-leb, lt-leb}
+use Rattle.whole.proofs.Fill.{poured, poured-more, poured-all}
+use Rattle.triple.specs.declared.domain.DomainAnswer.{DomainAnswer}
+use Rattle.triple.specs.declared.refusal.Refusal.{Refusal}
 use Rattle.triple.specs.declared.refusal.Refusal.the-variants as Is
 use Rattle.triple.specs.Refusals.{Told, told, refused, numberOf}
+use Rattle.triple.specs.Domain.{domainOf, positionCount}
+use Rattle.triple.specs.Answers.{saidDomain}
+use Rattle.triple.proofs.DomainLaws.{out-of-domain, in-domain, shallow, oriented, positions-are}
 use Rattle.code.specs.Codes.{codeLength, codeBytes, written, writeOf, afterWrite}
+use Rattle.code.proofs.CodeLaws.{length-code}
 
+-- ---- the loop that writes: the code's first k bytes stand in the place of the buffer's
+pub record Put (code buffer : List ℕ) (k : ℕ) (out : List ℕ) : Type 0 where
+  pub same-length : length out ≡ length buffer
+  pub poured-so : out ≡ poured code k buffer
+
+pub put-none : (code buffer : List ℕ) → Put code buffer 0 buffer
+put-none code buffer = record { same-length = refl; poured-so = refl }
+
+module _ (o r s : ℕ) {buffer out : List ℕ} {used k : ℕ} (length-is : used ≡ codeLength r) (p : Put (codeBytes o r s) buffer k out) where
+  pub put-more : codeLength r ≤ length buffer → k < used → {b : ℕ} → b ≡ getD (codeBytes o r s) k 0 → Put (codeBytes o r s) buffer (k + 1) (set out k b)
+  put-more room h e =
+      let long = length-code o r s in
+      record { same-length = simp length-set (p .same-length); poured-so = rw (p .poured-so) (poured-more (codeBytes o r s) buffer k 0 _ (omega arith) (omega arith) e) }
+
+  pub put-all : k ≤ used → used ≤ k → out ≡ codeBytes o r s ++ drop (codeLength r) buffer
+  put-all h l = poured-all (codeBytes o r s) buffer k (codeLength r) (length-code o r s) (omega arith) (omega arith) (p .poured-so)
+
+pub ruleset putting = (put-none, put-more, put-all)
+
+-- ---- the tests
 module _ (o r s : ℕ) (buffer : List ℕ) where
-  -- an answer, and the buffer that it leaves
-  after : {a : Told ℕ} → a ≡ writeOf o r s buffer → (a ≡ writeOf o r s buffer) × (written (codeBytes o r s) buffer a ≡ afterWrite o r s buffer)
+  -- the buffer that an answer leaves
+  left-by : {x : Told ℕ} → x ≡ writeOf o r s buffer → written (codeBytes o r s) buffer x ≡ afterWrite o r s buffer
   unfolding afterWrite
-  after p = (p, ap (written (codeBytes o r s) buffer) p)
+  left-by p = ap (written (codeBytes o r s) buffer) p
 
-  pub write-deep : 30 < r → (refused (numberOf Is.Resolution) ≡ writeOf o r s buffer) × (buffer ≡ afterWrite o r s buffer)
-  unfolding writeOf
-  write-deep h = after (simp (lt-ltb 30 r h))
-
-  pub write-unoriented : r ≤ 30 → 5 < o → (refused (numberOf Is.Orientation) ≡ writeOf o r s buffer) × (buffer ≡ afterWrite o r s buffer)
-  unfolding writeOf
-  write-unoriented h p = after (simp (le-ltb 30 r h, lt-ltb 5 o p))
-
-  module _ (shallow : r ≤ 30) (oriented : o ≤ 5) (count : ℕ) (count-is : count ≡ 4 ^ r) where
-    pub write-past : count ≤ s → (refused (numberOf Is.Position) ≡ writeOf o r s buffer) × (buffer ≡ afterWrite o r s buffer)
-    unfolding writeOf
-    write-past h = after (simp (le-ltb 30 r shallow, le-ltb 5 o oriented, le-leb (4 ^ r) s (rw count-is at h)))
-
-    module _ (named : s < count) (used : ℕ) (length-is : used ≡ codeLength r) where
-      pub write-short : length buffer < used → (refused (numberOf Is.Room) ≡ writeOf o r s buffer) × (buffer ≡ afterWrite o r s buffer)
+  module _ {a : DomainAnswer} (ea : saidDomain a ≡ domainOf o r) where
+    module _ {e : Refusal} (m : a ≡ DomainAnswer.Refused e) where
+      pub outside-refused : refused (numberOf e) ≡ writeOf o r s buffer
       unfolding writeOf
-      write-short h =
-          after
-          (simp (le-ltb 30 r shallow, le-ltb 5 o oriented, lt-leb (4 ^ r) s (rw count-is at named), lt-ltb (length buffer) (codeLength r) (rw length-is at h)))
+      outside-refused = out-of-domain o r a ea _ m
 
-      pub write-whole : used ≤ length buffer → {out : List ℕ} → out ≡ codeBytes o r s ++ drop (codeLength r) buffer
-          → (told used ≡ writeOf o r s buffer) × (out ≡ afterWrite o r s buffer)
-      unfolding writeOf
-      write-whole h e =
-          let p : told used ≡ writeOf o r s buffer =
-          simp (le-ltb 30 r shallow, le-ltb 5 o oriented, lt-leb (4 ^ r) s (rw count-is at named), le-ltb (length buffer) (codeLength r) (rw length-is at h), length-is) in
-          (p, rw (e, ← length-is) (after p .1))
+      pub outside-left : buffer ≡ afterWrite o r s buffer
+      outside-left = left-by outside-refused
+
+    module _ (m : a ≡ DomainAnswer.In) {count : ℕ} (count-is : count ≡ positionCount r) where
+      positions : count ≡ 4 ^ r
+      positions = positions-are r (shallow o r a ea m) count-is
+
+      module _ (past : count ≤ s) where
+        pub past-refused : refused (numberOf Is.Position) ≡ writeOf o r s buffer
+        unfolding writeOf
+        past-refused = simp (le-leb (4 ^ r) s (rw positions at past)) (in-domain o r a ea m _)
+
+        pub past-left : buffer ≡ afterWrite o r s buffer
+        past-left = left-by past-refused
+
+      module _ (named : s < count) where
+        pub position-named : s < 4 ^ r
+        position-named = rw positions at named
+
+        module _ {used : ℕ} (length-is : used ≡ codeLength r) where
+          module _ (short : length buffer < used) where
+            pub short-refused : refused (numberOf Is.Room) ≡ writeOf o r s buffer
+            unfolding writeOf
+            short-refused = simp (lt-leb (4 ^ r) s position-named, lt-ltb (length buffer) (codeLength r) (rw length-is at short)) (in-domain o r a ea m _)
+
+            pub short-left : buffer ≡ afterWrite o r s buffer
+            short-left = left-by short-refused
+
+          module _ (room : used ≤ length buffer) where
+            pub whole-told : told used ≡ writeOf o r s buffer
+            unfolding writeOf
+            whole-told = ap told length-is ∙ simp (lt-leb (4 ^ r) s position-named, le-ltb (length buffer) (codeLength r) (rw length-is at room)) (in-domain o r a ea m _)
+
+            pub whole-left : {out : List ℕ} → out ≡ codeBytes o r s ++ drop (codeLength r) buffer → out ≡ afterWrite o r s buffer
+            whole-left e = rw (e, ← length-is) (left-by whole-told)
+
+pub ruleset writing = (shallow, oriented, position-named, outside-refused, outside-left, past-refused, past-left, short-refused, short-left, whole-told, whole-left)

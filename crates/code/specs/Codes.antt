@@ -5,6 +5,7 @@ use lib.Dec.{leb, ltb, eqb}
 use lib.ListN.{length, take, drop, replicate}
 use Rattle.triple.specs.declared.refusal.Refusal.the-variants as Is
 use Rattle.triple.specs.Refusals.{Told, told, refused, refuse}
+use Rattle.triple.specs.Domain.{inDomain}
 use Rattle.code.specs.declared.Reading.{Reading}
 
 -- ---- bits, the most significant first
@@ -45,11 +46,10 @@ codeBytes o r s = bytesOf (codeLength r) (codeBits o r s)
 -- THE COUNT of bytes written
 unfoldable pub writeOf : ℕ → ℕ → ℕ → List ℕ → Told ℕ
 writeOf o r s buffer =
-    refuse (ltb 30 r) Is.Resolution
-    (refuse (ltb 5 o) Is.Orientation
+    inDomain o r
     (refuse (leb (4 ^ r) s) Is.Position
     (refuse (ltb (length buffer) (codeLength r)) Is.Room
-    (told (codeLength r)))))
+    (told (codeLength r))))
 
 -- THE BUFFER afterwards: the code and no byte past it touched; as it was where the call is refused
 abbrev pub written : List ℕ → List ℕ → Told ℕ → List ℕ
@@ -67,7 +67,6 @@ readOf bytes =
     let o = valueOf (take 3 bits) in
     let r = valueOf (take 5 (drop 3 bits)) in
     refuse (eqb (length bytes) 0) Is.Code
-    (refuse (ltb 30 r) Is.Resolution
-    (refuse (ltb 5 o) Is.Orientation
+    (inDomain o r
     (refuse (ltb (length bytes) (codeLength r)) Is.Code
-    (told (record { orientation = o; resolution = r; s = valueOf (take (2 * r) (drop 8 bits)); used = codeLength r })))))
+    (told (record { orientation = o; resolution = r; s = valueOf (take (2 * r) (drop 8 bits)); used = codeLength r }))))

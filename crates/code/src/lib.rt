@@ -23,10 +23,10 @@ ghost use Prim.Native.Nat.{_+_, _-_, _*_, _/_, _^_, _<_, _≤_};
 ghost use lib.ListN.{length, getD, drop};
 ghost use Rattle.code.specs.Codes.{valueOf, allBits, codeLength, codeBytes, writeOf, afterWrite, readOf};
 ghost use Rattle.code.specs.Answers.{saidWrite, saidRead};
-use triple::Triple;
+use triple::domain::DomainAnswer;
+use triple::domain::domain_of;
+use triple::domain::position_count;
 use triple::refusal::Refusal;
-
-const GREATEST_ORIENTATION: u8 = 5;
 
 // What a code says, and the count of bytes that it takes.
 pub struct Reading {
@@ -51,11 +51,9 @@ pub enum ReadAnswer {
 pub fn write(orientation: u8, resolution: u8, s: u64, out: &mut [u8]) -> WriteAnswer
     ensures { λ a. ⌜ (saidWrite a ≡ writeOf orientation resolution s (now (out .entry))) × (now (out .exit) ≡ afterWrite orientation resolution s (now (out .entry))) ⌝ }
 {
-    if resolution > Triple::GREATEST_RESOLUTION {
-        return WriteAnswer::Refused(Refusal::Resolution);
-    }
-    if orientation > GREATEST_ORIENTATION {
-        return WriteAnswer::Refused(Refusal::Orientation);
+    let domain = domain_of(orientation, resolution);
+    if let DomainAnswer::Refused(e) = domain {
+        return WriteAnswer::Refused(e);
     }
     if s >= position_count(resolution) {
         return WriteAnswer::Refused(Refusal::Position);
@@ -80,11 +78,9 @@ pub fn read(bytes: &[u8]) -> ReadAnswer
     let first = bytes[0];
     let resolution = first % 32;
     let orientation = first / 32;
-    if resolution > Triple::GREATEST_RESOLUTION {
-        return ReadAnswer::Refused(Refusal::Resolution);
-    }
-    if orientation > GREATEST_ORIENTATION {
-        return ReadAnswer::Refused(Refusal::Orientation);
+    let domain = domain_of(orientation, resolution);
+    if let DomainAnswer::Refused(e) = domain {
+        return ReadAnswer::Refused(e);
     }
     let used = code_length(resolution);
     if bytes.len() < used {
@@ -97,13 +93,6 @@ pub fn read(bytes: &[u8]) -> ReadAnswer
         s,
         used,
     })
-}
-
-fn position_count(resolution: u8) -> u64
-    requires { ⌜ resolution ≤ 30 ⌝ }
-    ensures { λ n. ⌜ n ≡ 4 ^ resolution ⌝ }
-{
-    1u64 << (2 * resolution)
 }
 
 // The count of bytes after the first.

@@ -1,5 +1,4 @@
 -- The contract on points allows one result alone. What an answer says has a left inverse: so two answers that say the same are the same.
--- Assumes nothing.
 use mathlib.Core.Path.{_≡_, refl, ap}
 use Prim.Native.Nat.{ℕ}
 use lib.Ieee.{Float}

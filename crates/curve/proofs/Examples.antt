@@ -1,7 +1,7 @@
 -- Worked examples of document 01 on points, by computation. A float fin s m e is m * 2 ^ e, negative where s is true.
 use mathlib.Core.Path.{_≡_, refl}
 use mathlib.Core.Bool.{false, true}
-use Prim.Native.Nat.{ℕ, _+_, _*_, _^_}
+use Prim.Native.Nat.{_+_, _*_, _^_}
 use lib.IntN.{ℤ, pos, negsuc}
 use lib.Ieee.{nan, inf, fin, add, sub, le, ofInt}
 use Rattle.triple.specs.declared.Triple.{Triple}

@@ -1,5 +1,4 @@
 -- Which numbers are near: by two comparisons, and by any fraction that a number equals.
--- Assumes nothing.
 use mathlib.Core.Path.{_≡_, refl, sym, _∙_}
 use mathlib.Core.Bool.{Bool, true, false, not}
 use Prim.Native.Nat.{ℕ, _*_, _^_, _≤_}
@@ -22,12 +21,17 @@ near-within (inf s) = refl
 near-within (fin s m e) = refl
 
 -- what the two comparisons of the code tell
-pub near-by : (x : Float) (b : Bool) → le (fin true 1 (pos 31)) x ≡ true → le x (fin false 1 (pos 31)) ≡ b → b ≡ near x
-near-by x true low high = sym (in-range 31 x low high) ∙ near-within x
-near-by x false low high = sym (out-high 31 x high) ∙ near-within x
+pub above-low : (x : Float) → le (fin true 1 (pos 31)) x ≡ true → le x (fin false 1 (pos 31)) ≡ near x
+above-low x low = go (le x (fin false 1 (pos 31))) refl
+  where
+    go : (b : Bool) → le x (fin false 1 (pos 31)) ≡ b → b ≡ near x
+    go true high = sym (in-range 31 x low high) ∙ near-within x
+    go false high = sym (out-high 31 x high) ∙ near-within x
 
-pub below-range : (x : Float) → le (fin true 1 (pos 31)) x ≡ false → false ≡ near x
-below-range x low = sym (out-low 31 x low) ∙ near-within x
+pub below-low : (x : Float) → le (fin true 1 (pos 31)) x ≡ false → false ≡ near x
+below-low x low = sym (out-low 31 x low) ∙ near-within x
+
+pub ruleset nearness = (above-low, below-low)
 
 pub no-nan : (x : Float) → near x ≡ true → T (not (isNan x))
 no-nan x t = within-not-nan 31 x (from-true (near-within x ∙ t))

@@ -1,7 +1,6 @@
 -- What the definitions of a point's triple give in each case, from what the code has in hand in that case; and that a point's triple is in bounds.
--- Assumes nothing.
 use mathlib.Core.Path.{_≡_, refl, sym, ap, _∙_}
-use mathlib.Core.Bool.{Bool, true, false, not, _&&_, cond, and-false, true≢false}
+use mathlib.Core.Bool.{Bool, true, false, not, _&&_, cond, true≢false}
 use Prim.Native.Nat.{ℕ, _+_, _-_, _^_, _≤_, _<_}
 use native.Mathlib.Omega.{arith}
 use native.Mathlib.Decide.{decLt}
@@ -9,19 +8,43 @@ use borrow.Author.Tests.{lt-ltb, le-ltb, le-leb, lt-leb, ltb-true, not-true, not
 use lib.Dec.{T, ltb}
 use lib.IntN.{ℤ, pos, negsuc, negℤ, natAbs, _-ℤ_}
 use lib.Signed.{ltZ, nonNeg}
+use lib.Pow.{pow-pos}
 use lib.Ieee.{Float, binary64, le, add, sub, ofInt}
 use mir.Syntax.{w32, w64}
 use mir.Val.{SFits, Fits, toZ}
 use mir.ValLaws.{toZ-ofZ}
+use Rattle.whole.proofs.Bools.{both-left, both-right, is-true, from-true}
 use Rattle.whole.proofs.TestLaws.{true-pass}
 use Rattle.whole.proofs.View.{View, rd, v-pos, v-upto, v-neg, v-add, v-bits, v-unsigned, v-abs, eq-by, le-by, fits, kept}
 use Rattle.triple.specs.declared.Triple.{Triple}
 use Rattle.triple.specs.declared.refusal.Refusal.the-variants as Is
-use Rattle.triple.specs.Refusals.{Told, told, refused, refuse, numberOf}
+use Rattle.triple.specs.Refusals.{told, refused, refuse, numberOf}
 use Rattle.triple.specs.Triples.{bounds, inBounds}
+use Rattle.triple.specs.Domain.{greatestResolution, rowCount}
+use Rattle.triple.proofs.DomainLaws.{v-rows}
+use Rattle.triple.proofs.RefusalLaws.{passed}
 use Rattle.triple.proofs.TripleLaws.{row-most}
 use Rattle.curve.specs.Points.{near, floor, fraction, one, parity, clamped, cornered, settled, pointOf}
 use Rattle.curve.proofs.FloorLaws.{floor-size}
+
+-- ---- both coordinates
+module _ (i j : Float) where
+  pub not-first : {b : Bool} → b ≡ near i → not b ≡ true → false ≡ (near i && near j)
+  not-first {b} e n = ap (λ (a : Bool). a && near j) (sym (sym e ∙ not-true b n))
+
+  pub second : {b c : Bool} → b ≡ near i → not b ≡ false → c ≡ near j → c ≡ (near i && near j)
+  second {b} e n f = f ∙ ap (λ (a : Bool). a && near j) (sym (sym e ∙ not-false b n))
+
+  pub near-told : {b : Bool} → b ≡ (near i && near j) → not b ≡ false → (near i && near j) ≡ true
+  near-told {b} e n = sym e ∙ not-false b n
+
+  pub near-first : (near i && near j) ≡ true → near i ≡ true
+  near-first t = sym (is-true (near i) (both-left (near i) (near j) (from-true t)))
+
+  pub near-second : (near i && near j) ≡ true → near j ≡ true
+  near-second t = sym (is-true (near j) (both-right (near i) (near j) (from-true t)))
+
+pub ruleset both-near = (not-first, second)
 
 -- ---- a floor, as the code clamps it
 module _ (z : ℤ) (f : SFits w64 z) where
@@ -80,6 +103,15 @@ module _ (x : Float) (t : near x ≡ true) {y z : ℤ} (e : y ≡ floor x) (g : 
   clamped-is = ap natAbs clamped-read
 
 -- ---- the parity
+module _ (f g : Float) where
+  pub parity-one : le one (add binary64 f g) ≡ true → _≡_ {A = ℕ} 1 (cond (le one (add binary64 f g)) 1 0)
+  parity-one h = rw h
+
+  pub parity-zero : le one (add binary64 f g) ≡ false → _≡_ {A = ℕ} 0 (cond (le one (add binary64 f g)) 1 0)
+  parity-zero h = rw h
+
+pub ruleset parities = (parity-one, parity-zero)
+
 module _ (f g : Float) {p : ℕ} (e : p ≡ cond (le one (add binary64 f g)) 1 0) where
   pub parity-small : p ≤ 1
   parity-small = go (le one (add binary64 f g)) e
@@ -113,6 +145,28 @@ cornered-is m n p h e = e ∙ λ i. record { x = minus-is n (omega arith) i; y =
 
 pub ruleset corners = (minus-n-fits, minus-m-fits, cornered-is)
 
+-- ---- the last row, by the count of the rows
+module _ (r : ℕ) (h : r ≤ 30) {n : ℤ} (e : n ≡ pos (rowCount r)) where
+  abbrev v-last : View (rd w64 n -ℤ pos 1)
+  v-last = v-add (v-bits w64 n (v-rows r h e)) (v-neg (v-pos 1))
+
+  pub last-fits : SFits w64 (rd w64 n -ℤ pos 1)
+  last-fits = fits v-last tt
+
+  last-read : rd w64 (rd w64 n -ℤ pos 1) ≡ pos (2 ^ r - 1)
+  last-read = eq-by (v-bits w64 (rd w64 n -ℤ pos 1) v-last) (v-upto (2 ^ r - 1) (2 ^ 30) (row-most r h)) tt (omega (arith, pow-pos r))
+
+  pub last-not-negative : T (nonNeg (rd w64 (rd w64 n -ℤ pos 1)))
+  last-not-negative = rw last-read tt
+
+  pub last-cast : Fits w64 (natAbs (rd w64 (rd w64 n -ℤ pos 1)))
+  last-cast = rw last-read (record { fits = omega (arith, row-most r h) })
+
+  pub last-is : natAbs (rd w64 (rd w64 n -ℤ pos 1)) ≡ 2 ^ r - 1
+  last-is = ap natAbs last-read
+
+pub ruleset last-rows = (last-fits, last-not-negative, last-cast, last-is)
+
 -- ---- brought down to the last row
 module _ (m n p last : ℕ) where
   pub settled-whole : m + n + p ≤ last → {t : Triple} → t ≡ cornered m n p → t ≡ settled last m n p
@@ -135,51 +189,38 @@ module _ (m n p last : ℕ) where
 pub ruleset settling = (settled-whole, settled-even, settled-off-m, settled-off-n)
 
 -- the whole rounding, from what each step gives
-pub rounded-is : (i j : Float) (last : ℕ) → near i ≡ true → near j ≡ true → {y z m n : ℤ} → y ≡ floor i → z ≡ floor j → m ≡ pos (clamped (rd w64 y)) → n ≡ pos (clamped (rd w64 z))
+pub rounded-is : (i j : Float) (last : ℕ) → (near i && near j) ≡ true → {y z m n : ℤ} → y ≡ floor i → z ≡ floor j → m ≡ pos (clamped (rd w64 y)) → n ≡ pos (clamped (rd w64 z))
     → (f g : Float) → f ≡ sub binary64 i (ofInt binary64 (rd w64 y)) → g ≡ sub binary64 j (ofInt binary64 (rd w64 z)) → {p : ℕ} → p ≡ cond (le one (add binary64 f g)) 1 0
     → {t : Triple} → t ≡ settled last (natAbs (rd w64 m)) (natAbs (rd w64 n)) p → t ≡ settled last (clamped (floor i)) (clamped (floor j)) (parity i j)
-rounded-is i j last ni nj y z m n f g a b p e = e ∙ λ k. settled last (clamped-is i ni y m k) (clamped-is j nj z n k) (parity-is f g p i j (fraction-is i ni y a) (fraction-is j nj z b) k)
+rounded-is i j last both y z m n f g a b p e =
+    let ni = near-first i j both in
+    let nj = near-second i j both in
+    e ∙ λ k. settled last (clamped-is i ni y m k) (clamped-is j nj z n k) (parity-is f g p i j (fraction-is i ni y a) (fraction-is j nj z b) k)
 
-pub ruleset rounding = (floor-small, clamped-not-negative, clamped-fits, clamped-small, parity-small, rounded-is)
+pub ruleset rounding = (near-first, near-second, floor-small, clamped-not-negative, clamped-fits, clamped-small, parity-small, rounded-is)
 
 -- ---- the answers: refused, or told
-pub near-told : (x : Float) {b : Bool} → b ≡ near x → not b ≡ false → near x ≡ true
-near-told x {b} e n = sym e ∙ not-false b n
-
-not-near : (x : Float) {b : Bool} → b ≡ near x → not b ≡ true → near x ≡ false
-not-near x {b} e n = sym e ∙ not-true b n
-
-abbrev by-tests : Bool → Bool → Bool → Triple → Told Triple
-by-tests far a b t = refuse far Is.Resolution (refuse (not (a && b)) Is.Point (told t))
-
 module _ (r : ℕ) (i j : Float) where
   abbrev found : Triple
   found = settled (2 ^ r - 1) (clamped (floor i)) (clamped (floor j)) (parity i j)
 
   pub point-far : 30 < r → refused (numberOf Is.Resolution) ≡ pointOf r i j
   unfolding pointOf
-  point-far h = ap (λ (b : Bool). by-tests b (near i) (near j) found) (sym (lt-ltb 30 r h))
+  point-far h = rw (lt-ltb 30 r h)
 
-  module _ (h : r ≤ 30) where
-    pub point-first : {b : Bool} → b ≡ near i → not b ≡ true → refused (numberOf Is.Point) ≡ pointOf r i j
+  module _ (h : r ≤ 30) {b : Bool} (e : b ≡ (near i && near j)) where
+    pub point-beyond : not b ≡ true → refused (numberOf Is.Point) ≡ pointOf r i j
     unfolding pointOf
-    point-first e n = λ k. by-tests (sym (le-ltb 30 r h) k) (sym (not-near i e n) k) (near j) found
+    point-beyond n = rw (le-ltb 30 r h, ← e, not-true b n)
 
-    pub point-second : {b : Bool} → b ≡ near j → not b ≡ true → refused (numberOf Is.Point) ≡ pointOf r i j
+    pub point-told : not b ≡ false → {l : ℕ} → l ≡ 2 ^ r - 1 → {t : Triple} → t ≡ settled l (clamped (floor i)) (clamped (floor j)) (parity i j) → told t ≡ pointOf r i j
     unfolding pointOf
-    point-second e n = ap (λ (b : Bool). refuse (not b) Is.Point (told found)) (sym (and-false (near i))) ∙ λ k. by-tests (sym (le-ltb 30 r h) k) (near i) (sym (not-near j e n) k) found
-
-    pub point-told : {a b : Bool} → a ≡ near i → not a ≡ false → b ≡ near j → not b ≡ false → {l : ℕ} → l ≡ 2 ^ r - 1
-        → {t : Triple} → t ≡ settled l (clamped (floor i)) (clamped (floor j)) (parity i j) → told t ≡ pointOf r i j
-    unfolding pointOf
-    point-told ei ni ej nj l e =
-        ap told (e ∙ ap (λ (k : ℕ). settled k (clamped (floor i)) (clamped (floor j)) (parity i j)) l)
-        ∙ λ k. by-tests (sym (le-ltb 30 r h) k) (sym (near-told i ei ni) k) (sym (near-told j ej nj) k) found
+    point-told n l f = rw (le-ltb 30 r h, ← e, not-false b n, f, l)
 
 pub last-small : (r : ℕ) → r ≤ 30 → {l : ℕ} → l ≡ 2 ^ r - 1 → l ≤ 2 ^ 30
 last-small r h e = omega (arith, row-most r h)
 
-pub ruleset answers = (point-far, point-first, point-second, point-told)
+pub ruleset answers = (near-told, last-small, point-far, point-beyond, point-told)
 
 -- ---- always in bounds
 cornered-in-bounds : (r m n p : ℕ) → m + n + p ≤ 2 ^ r - 1 → p ≤ 1 → inBounds r (cornered m n p) ≡ true
@@ -205,13 +246,10 @@ settled-in-bounds r m n p l = elim (decLt (2 ^ r - 1) (m + n + p)) [
   | no h ↦ rw (← settled-whole m n p (2 ^ r - 1) (omega arith) refl) (cornered-in-bounds r m n p (omega arith) l)
 ]
 
-told-found : (far good : Bool) (s t : Triple) → refuse far Is.Resolution (refuse (not good) Is.Point (told s)) ≡ told t → s ≡ t
-told-found true good s t e = let z : _≡_ {A = ℕ} 0 1 = cc in absurd (omega arith)
-told-found false false s t e = let z : _≡_ {A = ℕ} 0 1 = cc in absurd (omega arith)
-told-found false true s t e = cc
-
 pub point-in-bounds : (r : ℕ) (i j : Float) (t : Triple) → pointOf r i j ≡ told t → inBounds r t ≡ true
 unfolding pointOf parity
 point-in-bounds r i j t e =
-    ap (inBounds r) (sym (told-found (ltb 30 r) (near i && near j) (found r i j) t e))
-    ∙ settled-in-bounds r (clamped (floor i)) (clamped (floor j)) (parity i j) (parity-small (fraction i) (fraction j) refl)
+    let deep = passed (ltb greatestResolution r) Is.Resolution e in
+    let beyond = passed (not (near i && near j)) Is.Point (deep .1) in
+    let is : found r i j ≡ t = cc (beyond .1) in
+    ap (inBounds r) (sym is) ∙ settled-in-bounds r (clamped (floor i)) (clamped (floor j)) (parity i j) (parity-small (fraction i) (fraction j) refl)

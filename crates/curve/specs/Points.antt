@@ -1,12 +1,13 @@
 -- A point's triple: floors, parity, and what of them is beyond the bounds taken off.
 use mathlib.Core.Bool.{Bool, true, false, not, _&&_, cond}
 use Prim.Native.Nat.{ℕ, _+_, _-_, _*_, _/_, _^_}
-use lib.Dec.{leb, ltb}
+use lib.Dec.{leb}
 use lib.IntN.{ℤ, pos, negsuc, negℤ}
 use lib.Ieee.{Float, nan, inf, fin, up, down, binary64, add, sub, le, ofInt}
 use Rattle.triple.specs.declared.Triple.{Triple}
 use Rattle.triple.specs.declared.refusal.Refusal.the-variants as Is
 use Rattle.triple.specs.Refusals.{Told, told, refuse}
+use Rattle.triple.specs.Domain.{atResolution}
 
 -- ---- a coordinate: the value of fin s m e is m * up e / down e, negative where s is true
 -- not NaN, not infinite, and not beyond 2 ^ 31 in size
@@ -55,6 +56,6 @@ settled last m n p =
 -- THE TRIPLE of the point (i, j) at resolution r
 unfoldable pub pointOf : ℕ → Float → Float → Told Triple
 pointOf r i j =
-    refuse (ltb 30 r) Is.Resolution
+    atResolution r
     (refuse (not (near i && near j)) Is.Point
     (told (settled (2 ^ r - 1) (clamped (floor i)) (clamped (floor j)) (parity i j))))

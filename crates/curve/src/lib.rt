@@ -2,13 +2,14 @@
 // What a triple's bounds are is `triple`'s; which position names it is `lsystem`'s. The mapping between
 // positions and cells needs no point, and is all there.
 ghost use mathlib.Core.Path.{_≡_};
-ghost use mathlib.Core.Bool.{true, cond};
+ghost use mathlib.Core.Bool.{true, _&&_, cond};
 ghost use Prim.Native.Nat.{_+_, _-_, _<_, _≤_, _^_};
 ghost use lib.IntN.{pos, natAbs};
 ghost use lib.Ieee.{binary64, add, sub, le, ofInt};
 ghost use Rattle.curve.specs.Points.{near, floorAt, floor, one, parity, clamped, cornered, settled, pointOf};
 ghost use Rattle.curve.specs.Answers.{saidPoint};
 use triple::Triple;
+use triple::domain::row_count;
 use triple::refusal::Refusal;
 
 pub enum PointAnswer {
@@ -25,13 +26,19 @@ pub fn round_to_triple(i: f64, j: f64, resolution: u8) -> PointAnswer
     if resolution > Triple::GREATEST_RESOLUTION {
         return PointAnswer::Refused(Refusal::Resolution);
     }
-    if !is_near(i) {
-        return PointAnswer::Refused(Refusal::Point);
-    }
-    if !is_near(j) {
+    if !are_near(i, j) {
         return PointAnswer::Refused(Refusal::Point);
     }
     PointAnswer::At(rounded(i, j, last_row(resolution)))
+}
+
+fn are_near(i: f64, j: f64) -> bool
+    ensures { λ b. ⌜ b ≡ (near i && near j) ⌝ }
+{
+    if !is_near(i) {
+        return false;
+    }
+    is_near(j)
 }
 
 // Whether x is a number, and not beyond 2^31 in size. Each comparison is false of NaN.
@@ -45,7 +52,7 @@ fn is_near(x: f64) -> bool
 }
 
 fn rounded(i: f64, j: f64, last: u64) -> Triple
-    requires { ⌜ (near i ≡ true) × (near j ≡ true) × (last ≤ 2 ^ 30) ⌝ }
+    requires { ⌜ ((near i && near j) ≡ true) × (last ≤ 2 ^ 30) ⌝ }
     ensures { λ t. ⌜ t ≡ settled last (clamped (floor i)) (clamped (floor j)) (parity i j) ⌝ }
 {
     let floor_i = floor_of(i);
@@ -122,7 +129,7 @@ fn last_row(resolution: u8) -> u64
     requires { ⌜ resolution ≤ 30 ⌝ }
     ensures { λ l. ⌜ l ≡ 2 ^ resolution - 1 ⌝ }
 {
-    (1u64 << resolution) - 1
+    (row_count(resolution) - 1) as u64
 }
 
 // What is beyond the last row comes off the parity, then off m, then off n.

@@ -12,7 +12,7 @@ use Rattle.grammar.specs.Curves.{tokenBytes}
 use Rattle.tables.specs.Compiler.{states, compiledTo, tableFor}
 use Rattle.tables.proofs.Entries.{length-table}
 use Rattle.tables.proofs.Drawing.{drawing-length}
-use Rattle.tables.proofs.CompileLaws.{when-states}
+use Rattle.tables.proofs.CompilerLaws.{when-states}
 use Rattle.tables.proofs.CompileDetermined.{compiled-table, compiled-draws}
 use Rattle.demands.specs.Demands.{Grammar}
 

@@ -8,7 +8,7 @@ use borrow.Author.Tests.{le-ltb, lt-leb, leb-false}
 use Rattle.triple.specs.declared.Triple.{Triple}
 use Rattle.triple.specs.Refusals.{told, refused}
 use Rattle.triple.specs.Triples.{inBounds, closedFlavor}
-use Rattle.lsystem.specs.declared.Named.{Named}
+use Rattle.lsystem.specs.declared.cell.Cell.{Cell}
 use Rattle.lsystem.specs.declared.Position.{Position}
 use Rattle.lsystem.specs.Cells.{drawnCell, named, cellAt, cellOf, positionOf}
 use Rattle.lsystem.proofs.Numbering.{cellOn, position-names, triple-named, unnamed-refused}
@@ -23,7 +23,7 @@ drawn o (suc n) s h k m l = rw (le-ltb 30 (suc n) k, le-ltb 5 o h, lt-leb (4 ^ s
 
 module _ (o r : ℕ) (h : o ≤ 5) (k : r ≤ 30) where
   -- a position that names anything is below 4 ^ r
-  below : (s : ℕ) (c : Named) → cellOf o r s ≡ told c → s < 4 ^ r
+  below : (s : ℕ) (c : Cell) → cellOf o r s ≡ told c → s < 4 ^ r
   unfolding cellOf
   below s c e =
       let shallow = passed _ _ (ltb 30 r) e in
@@ -35,7 +35,7 @@ module _ (o r : ℕ) (h : o ≤ 5) (k : r ≤ 30) where
   names s t e =
       let a = answered (cellOf o r s) e in
       let n = position-names o r h k s (below s (a .0) (a .1)) in
-      let same : n .0 ≡ t = ap (λ (c : Named). c .triple) (told-same (sym (n .2) ∙ a .1)) ∙ a .2 in
+      let same : n .0 ≡ t = ap (λ (c : Cell). c .triple) (told-same (sym (n .2) ∙ a .1)) ∙ a .2 in
       (rw same at (n .1), rw same at (n .2), rw same at (n .3))
 
   -- a triple that has a position is in bounds
@@ -77,6 +77,6 @@ module _ (o r : ℕ) (h : o ≤ 5) (k : r ≤ 30) where
     once = λ s u t e f. ap (λ (p : Position). p .s) (told-same (sym (names s t e .2) ∙ names u t f .2));
     back = λ s t. (λ e. rw (names s t e .2), back s t);
     refused-unnamed = λ t. (λ e. refused-out t (e .0) (e .1), unnamed-out t);
-    flavor = λ s c e. ap (λ (c : Named). c .flavor) (told-same (sym e ∙ names s (c .triple) (rw e) .1));
+    flavor = λ s c e. ap (λ (c : Cell). c .flavor) (told-same (sym e ∙ names s (c .triple) (rw e) .1));
     flavor-back = λ t p e. had-names t p e .1;
   }

@@ -3,6 +3,7 @@
 use mathlib.Core.Path.{refl}
 use mathlib.Core.Logic.{⊎-elim}
 use mathlib.Core.Bool.{Bool, true, false, not, cond, _||_, _&&_}
+use mathlib.Core.Option.{Option, some, none}
 use mathlib.Core.List.{List, [], _∷_}
 use Prim.Native.Nat.{ℕ, zero, suc, _-_, _*_, _^_, _≤_}
 use native.Mathlib.Omega.{arith}
@@ -15,11 +16,13 @@ use Rattle.triple.specs.declared.Triple.{Triple}
 use Rattle.triple.specs.declared.refusal.Refusal.the-variants as Is
 use Rattle.triple.specs.Refusals.{Told, told, refused, numberOf, refuse, _>>=_}
 use Rattle.triple.specs.Triples.{goodSum, inBounds, parityOf, flavorOf}
-use Rattle.triple.specs.Orientations.{orientationOf}
+use Rattle.triple.specs.Orientations.{curvePlace}
+use Rattle.triple.specs.Domain.{domainOf}
 use Rattle.turtle.specs.declared.AB.{AB}
 use Rattle.turtle.specs.Corners.{cornerSumOf, tripleOf}
 use Rattle.turtle.proofs.CornerLaws.{inverse-refused}
-use Rattle.grammar.specs.Texts.{Row, linesOf, rowsOf, fieldsOf}
+use Rattle.text.specs.Words.{wordsOf}
+use Rattle.grammar.specs.Texts.{Row, linesOf, rowsOf}
 use Rattle.grammar.specs.Curves.{tokenBytes}
 use Rattle.grammar.specs.Tests.{Verdict, fine, fault, faultAt, first, badShape, badMotif, badRule, badCount, badHeading, badDraw, badTurns, badNet, someRows, lineTests, textTests}
 use Rattle.grammar.specs.WordAnswers.{writtenTo}
@@ -27,26 +30,27 @@ use Rattle.tables.specs.Compiler.{unless, states, compiledTo, tableFor}
 use Rattle.tables.specs.Compiler as Compiler
 use Rattle.tables.specs.Descent.{goodTable, descentOf}
 use Rattle.tables.specs.Verdicts.{badSplit, splitTests, verdict}
-use Rattle.lsystem.specs.declared.Named.{Named}
+use Rattle.lsystem.specs.declared.cell.Cell.{Cell}
 use Rattle.lsystem.specs.Cells.{named, cellOf, positionOf}
 use Rattle.lsystem.proofs.Numbering.{numbers as numbers-of}
 use Rattle.nodes.specs.declared.Node.{Node}
-use Rattle.nodes.specs.Nodes.{goodNode, digitOf, childCell, bounded, childOf, nodeOf}
+use Rattle.nodes.specs.Nodes.{goodNode, childCell, bounded, stepTo, childStepOf, nodeOf}
 use Rattle.nodes.specs.NodeAnswers.{axiomNodeOf}
 use Rattle.curve.specs.Points.{near, pointOf}
 use Rattle.code.specs.Codes.{allBits, valueOf, codeLength, writeOf, readOf}
 use Rattle.query.specs.declared.Query.{Query}
-use Rattle.query.specs.Numbers.{allDigits, valueAfter, isDecimal, upTo, i32, f64}
+use Rattle.text.specs.Decimals.{u8, u64, i32}
+use Rattle.text.specs.Patterns.{f64}
 use Rattle.query.specs.Queries.{answerOf}
 use Rattle.query.specs.Prints.{printOf}
-use Rattle.query.specs.Lines.{starts, positionQuery, cellQuery, pointQuery, queryOf}
+use Rattle.query.specs.Lines.{number, positionRest, cellRest, pointRest, headed, starts, queryOf}
 use Rattle.demands.specs.Demands.{isAmong, AnsweredOr, answer, refusal, CompiledOr, Refusals}
 use Rattle.demands.proofs.ToldLaws.{by-test, by-choice, by-step, by-answer}
 
 -- ---- triples
-orientation : (o : ℕ) → AnsweredOr (2 ∷ []) (orientationOf o)
-unfolding orientationOf numberOf
-orientation o = by-test (ltb 5 o) Is.Orientation tt λ h. answer
+domain : (o r : ℕ) → AnsweredOr (1 ∷ 2 ∷ []) (domainOf o r)
+unfolding numberOf
+domain o r = by-test (ltb 30 r) Is.Resolution tt λ k. by-test (ltb 5 o) Is.Orientation tt λ h. answer
 
 parity : (t : Triple) → AnsweredOr (4 ∷ []) (parityOf t)
 unfolding parityOf numberOf
@@ -93,19 +97,20 @@ node : (o r : ℕ) (t : Triple) → AnsweredOr (1 ∷ 2 ∷ 4 ∷ 5 ∷ []) (nod
 unfolding nodeOf
 node o r t = by-step (position o r t tt tt tt tt) λ p. answer
 
-within : (r : ℕ) (t : Told Named) → AnsweredOr (1 ∷ 2 ∷ 7 ∷ 8 ∷ 5 ∷ []) (bounded r t)
+within : (r : ℕ) (t : Told Cell) → AnsweredOr (1 ∷ 2 ∷ 7 ∷ 8 ∷ 5 ∷ []) (bounded r t)
 unfolding numberOf
 within r (told c) = by-test (not (inBounds r (c .triple))) Is.Bounds tt λ b. answer
 within r (refused n) = refusal tt
 
-child : (o r : ℕ) (n : Node) (d : ℕ) → AnsweredOr (1 ∷ 2 ∷ 7 ∷ 8 ∷ 5 ∷ []) (childOf o r n d)
-unfolding childOf numberOf
+child : (o r : ℕ) (n : Node) (d : ℕ) → AnsweredOr (1 ∷ 2 ∷ 7 ∷ 8 ∷ 5 ∷ []) (childStepOf o r n d)
+unfolding childStepOf stepTo numberOf
 child o r n d =
-    by-test (eqb r 0 || ltb 30 r) Is.Resolution tt λ k.
+    by-test (eqb r 0) Is.Resolution tt λ z.
+    by-test (ltb 30 r) Is.Resolution tt λ k.
     by-test (ltb 5 o) Is.Orientation tt λ h.
     by-test (not (goodNode n)) Is.Node tt λ g.
     by-test (ltb 3 d) Is.Digit tt λ l.
-    by-step (within r (named o r (childCell n (digitOf o d)))) λ c. answer
+    by-step (within r (named o r (childCell n (curvePlace o 1 d)))) λ c. answer
 
 -- ---- points
 point : {numbers : List ℕ} (r : ℕ) (i j : Float) → T (isAmong 1 numbers) → T (isAmong 9 numbers) → AnsweredOr numbers (pointOf r i j)
@@ -180,31 +185,23 @@ reading bytes =
     by-test (ltb (length bytes) (codeLength r)) Is.Code tt λ whole. answer
 
 -- ---- lines and queries
-up-to : (most : ℕ) (w : List ℕ) → AnsweredOr (21 ∷ []) (upTo most w)
-unfolding upTo numberOf
-up-to most w = by-test (not (isDecimal w) || ltb most (valueAfter 10 0 w)) Is.Line tt λ e. answer
+by-number : {A : Type 0} (read : Option A) → AnsweredOr (21 ∷ []) (number read)
+unfolding numberOf
+by-number (some v) = answer
+by-number none = refusal tt
 
-integer : (w : List ℕ) → AnsweredOr (21 ∷ []) (i32 w)
-unfolding i32 numberOf
-integer [] = refusal tt
-integer (b ∷ w) = go (eqb b 45)
-  where
-    go : (minus : Bool) → AnsweredOr (21 ∷ []) (cond minus (upTo (2 ^ 31) w >>= λ n. refuse (eqb n 0) Is.Line (told (negℤ (pos n)))) (upTo (2 ^ 31 - 1) (b ∷ w) >>= λ n. told (pos n)))
-    go true = by-step (up-to (2 ^ 31) w) λ n. by-test (eqb n 0) Is.Line tt λ e. answer
-    go false = by-step (up-to (2 ^ 31 - 1) (b ∷ w)) λ n. answer
-
-float : (w : List ℕ) → AnsweredOr (21 ∷ []) (f64 w)
-unfolding f64 numberOf
-float w = by-test (not (eqb (length w) 16 && allDigits 16 w)) Is.Line tt λ e. answer
+by-head : (rest : ℕ → ℕ → List (List ℕ) → Told Query) (w : List (List ℕ)) → ((o r : ℕ) → AnsweredOr (21 ∷ []) (rest o r w)) → AnsweredOr (21 ∷ []) (headed rest w)
+unfolding headed
+by-head rest w answered = by-step (by-number (u8 (getD w 1 []))) λ o. by-step (by-number (u8 (getD w 2 []))) λ r. answered o r
 
 line : (line : List ℕ) → AnsweredOr (21 ∷ []) (queryOf line)
-unfolding queryOf numberOf positionQuery cellQuery pointQuery
+unfolding queryOf numberOf
 line l =
-    let w = fieldsOf l in
+    let w = wordsOf l in
     by-test (ltb 64 (length l)) Is.Line tt λ e.
-    by-choice (starts 80 4 w) (by-step (up-to 255 (getD w 1 [])) λ o. by-step (up-to 255 (getD w 2 [])) λ r. by-step (up-to (2 ^ 64 - 1) (getD w 3 [])) λ s. answer)
-    (by-choice (starts 67 6 w) (by-step (up-to 255 (getD w 1 [])) λ o. by-step (up-to 255 (getD w 2 [])) λ r. by-step (integer (getD w 3 [])) λ x. by-step (integer (getD w 4 [])) λ y. by-step (integer (getD w 5 [])) λ z. answer)
-    (by-choice (starts 82 5 w) (by-step (up-to 255 (getD w 1 [])) λ o. by-step (up-to 255 (getD w 2 [])) λ r. by-step (float (getD w 3 [])) λ i. by-step (float (getD w 4 [])) λ j. answer) (refusal tt)))
+    by-choice (starts 80 4 w) (by-head positionRest w λ o r. by-step (by-number (u64 (getD w 3 []))) λ s. answer)
+    (by-choice (starts 67 6 w) (by-head cellRest w λ o r. by-step (by-number (i32 (getD w 3 []))) λ x. by-step (by-number (i32 (getD w 4 []))) λ y. by-step (by-number (i32 (getD w 5 []))) λ z. answer)
+    (by-choice (starts 82 5 w) (by-head pointRest w λ o r. by-step (by-number (f64 (getD w 3 []))) λ i. by-step (by-number (f64 (getD w 4 []))) λ j. answer) (refusal tt)))
 
 query : (q : Query) → AnsweredOr (1 ∷ 2 ∷ 3 ∷ 4 ∷ 5 ∷ 9 ∷ []) (answerOf q)
 unfolding answerOf numberOf
@@ -221,7 +218,7 @@ print text buffer = by-test (ltb (length buffer) (length text)) Is.Room tt λ ro
 
 pub refusals : Refusals
 refusals = record {
-  orientation = orientation;
+  domain = domain;
   parity = parity;
   flavor = flavor;
   corner-sum = corner-sum;

@@ -3,7 +3,7 @@ use mathlib.Core.Path.{_≡_, refl, ap, _∙_}
 use Prim.Native.Nat.{ℕ, zero, suc, _^_, _<_, _≤_}
 use native.Mathlib.Omega.{arith}
 use Rattle.triple.specs.Refusals.{Told, told, refused, _>>=_}
-use Rattle.lsystem.specs.declared.Named.{Named}
+use Rattle.lsystem.specs.declared.cell.Cell.{Cell}
 use Rattle.lsystem.specs.Cells.{cellOf}
 use Rattle.nodes.specs.declared.Node.{Node}
 use Rattle.nodes.specs.declared.ChildStep.{ChildStep}
@@ -13,7 +13,7 @@ use Rattle.nodes.proofs.NodeWalk.{walk-nodes, walk-cell, node-good}
 use Rattle.demands.specs.Demands.{ChildSteps}
 
 -- the cell of an answer with a node beside it
-cell-of : (t : Told Named) (n : Node) → ((t >>= λ c. told (record { cell = c; node = n })) >>= λ (c : ChildStep). told (c .cell)) ≡ t
+cell-of : (t : Told Cell) (n : Node) → ((t >>= λ c. told (record { cell = c; node = n })) >>= λ (c : ChildStep). told (c .cell)) ≡ t
 cell-of (told c) n = refl
 cell-of (refused e) n = refl
 
@@ -24,6 +24,6 @@ last-cell o (suc n) s h k l m =
 
 pub child-steps : (o r s : ℕ) → o ≤ 5 → r ≤ 30 → s < 4 ^ r → ChildSteps o r s
 child-steps o r s h k l = record {
-  node = (nodeAt o r s, walk-nodes o h r s k l, node-good o h r s k l);
+  node = (nodeAt o r s, walk-nodes o h r s k l, node-good o r s k l);
   cell = last-cell o r s h k l;
 }

@@ -5,8 +5,9 @@ use Prim.Native.Nat.{_-_, _^_, _<_}
 use native.Mathlib.Omega.{arith}
 use lib.IntN.{pos, negsuc}
 use Rattle.triple.specs.Refusals.{refused, numberOf}
+use Rattle.triple.specs.Orientations.{isBackward, placeFrom, curvePlace}
 use Rattle.triple.specs.Triples.{colorOf, closedFlavor}
-use Rattle.lsystem.specs.Cells.{placeOf, isBackward, cellAt, cellOf}
+use Rattle.lsystem.specs.Cells.{cellAt, cellOf}
 use Rattle.lsystem.proofs.Examples.{cell-examples, corner-examples}
 use Rattle.tables.proofs.Examples.{no-split}
 use Rattle.tables.specs.Compiler.{compiledTo}
@@ -26,7 +27,7 @@ last = omega arith
 
 -- the walk by the thirty digits of the last position
 last-cell : cellAt 0 30 (4 ^ 30 - 1) ≡ cell (pos 0) (pos 1073741823) (negsuc 1073741822) 2
-unfolding axiomIn placeOf isBackward cellTriple tripleAt walk moved leaf before-x before-y before-g begins at-x at-y at-g leaf-x leaf-y leaf-g entry a5Table colorOf closedFlavor
+unfolding axiomIn isBackward placeFrom curvePlace cellTriple tripleAt walk moved leaf before-x before-y before-g begins at-x at-y at-g leaf-x leaf-y leaf-g entry a5Table colorOf closedFlavor
 last-cell = cell-at 0 29 (4 ^ 30 - 1) (omega arith) (omega arith) last
 
 last-told : cellOf 0 30 (4 ^ 30 - 1) ≡ cell (pos 0) (pos 1073741823) (negsuc 1073741822) 2

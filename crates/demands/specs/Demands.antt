@@ -12,9 +12,9 @@ use lib.ListN.{length, getD, drop}
 use Rattle.triple.specs.declared.Triple.{Triple}
 use Rattle.triple.specs.Refusals.{Told, told, refused, _>>=_}
 use Rattle.triple.specs.Triples.{inBounds, parityOf, closedFlavor, flavorOf}
-use Rattle.triple.specs.Orientations.{orientationOf}
+use Rattle.triple.specs.Domain.{domainOf}
 use Rattle.turtle.specs.declared.AB.{AB}
-use Rattle.turtle.specs.declared.walk.Cell.{Cell}
+use Rattle.turtle.specs.declared.walk.DrawnCell.{DrawnCell}
 use Rattle.turtle.specs.Corners.{cornerSumOf, tripleOf, HasTriple}
 use Rattle.grammar.specs.Texts.{linesOf}
 use Rattle.grammar.specs.Curves.{drawing, tokenBytes, letterOf}
@@ -25,11 +25,11 @@ use Rattle.tables.specs.Compiler.{Compiled, states, compiledTo, afterCompile}
 use Rattle.tables.specs.Compiler as Compiler
 use Rattle.tables.specs.Descent.{descentOf}
 use Rattle.a5.specs.A5.{a5Text}
-use Rattle.lsystem.specs.declared.Named.{Named}
+use Rattle.lsystem.specs.declared.cell.Cell.{Cell}
 use Rattle.lsystem.specs.declared.Position.{Position}
 use Rattle.lsystem.specs.Cells.{drawnCell, named, cellOf, positionOf}
 use Rattle.nodes.specs.declared.Node.{Node}
-use Rattle.nodes.specs.Nodes.{goodNode, childOf, nodeOf}
+use Rattle.nodes.specs.Nodes.{goodNode, childStepOf, nodeOf}
 use Rattle.nodes.specs.NodeAnswers.{axiomNodeOf}
 use Rattle.nodes.specs.NodeWalks.{walkedNode, lastStep}
 use Rattle.curve.specs.Points.{pointOf}
@@ -60,8 +60,8 @@ CompiledOr (Compiler.refused n) = n ≡ 10
 
 -- each call's numbers, as they are tested
 pub record Refusals : Type 0 where
-  -- the orientation that has a number
-  pub orientation : (o : ℕ) → AnsweredOr (2 ∷ []) (orientationOf o)
+  -- whether there are such an orientation and such a resolution
+  pub domain : (o r : ℕ) → AnsweredOr (1 ∷ 2 ∷ []) (domainOf o r)
   -- a triple's parity
   pub parity : (t : Triple) → AnsweredOr (4 ∷ []) (parityOf t)
   -- a triple's flavor
@@ -79,7 +79,7 @@ pub record Refusals : Type 0 where
   -- the node of a triple
   pub node : (o r : ℕ) (t : Triple) → AnsweredOr (1 ∷ 2 ∷ 4 ∷ 5 ∷ []) (nodeOf o r t)
   -- a child step
-  pub child : (o r : ℕ) (n : Node) (d : ℕ) → AnsweredOr (1 ∷ 2 ∷ 7 ∷ 8 ∷ 5 ∷ []) (childOf o r n d)
+  pub child : (o r : ℕ) (n : Node) (d : ℕ) → AnsweredOr (1 ∷ 2 ∷ 7 ∷ 8 ∷ 5 ∷ []) (childStepOf o r n d)
   -- a point's triple
   pub point : (r : ℕ) (i j : Float) → AnsweredOr (1 ∷ 9 ∷ []) (pointOf r i j)
   -- a word, reversed or expanded, written to a buffer
@@ -148,7 +148,7 @@ pub record Numbering (o r : ℕ) : Type 0 where
   -- a triple is refused exactly when no position names it
   pub refused-unnamed : (t : Triple) → ((n : ℕ) × (positionOf o r t ≡ refused n)) ↔ ((s : ℕ) → tripleNamed o r s ≡ told t → ⊥)
   -- the flavor of a position's cell is the closed formula's
-  pub flavor : (s : ℕ) (c : Named) → cellOf o r s ≡ told c → c .flavor ≡ closedFlavor r (c .triple)
+  pub flavor : (s : ℕ) (c : Cell) → cellOf o r s ≡ told c → c .flavor ≡ closedFlavor r (c .triple)
   -- and so is the one that comes with a triple's position
   pub flavor-back : (t : Triple) (p : Position) → positionOf o r t ≡ told p → p .flavor ≡ closedFlavor r t
 
@@ -166,7 +166,7 @@ pub record Points : Type 0 where
 
 -- ---- grammars
 -- the full drawing of a text: r passes from the starting motif that is the token m
-abbrev pub fullDrawing : List ℕ → ℕ → ℕ → List Cell
+abbrev pub fullDrawing : List ℕ → ℕ → ℕ → List DrawnCell
 fullDrawing text r m = drawing (linesOf text) r (letterOf (linesOf text) m)
 
 -- of a text that the compiler answers with n states

@@ -10,7 +10,7 @@ use Rattle.triple.specs.Refusals.{Told, told, refused}
 use Rattle.turtle.specs.Plane.{ab}
 use Rattle.turtle.specs.Corners.{tripleOf}
 use Rattle.tables.specs.Compiler.{faulty, compiledTo}
-use Rattle.lsystem.specs.declared.Named.{Named}
+use Rattle.lsystem.specs.declared.cell.Cell.{Cell}
 use Rattle.lsystem.specs.Cells.{cellOf}
 use Rattle.curve.specs.Points.{pointOf}
 use Rattle.code.specs.Codes.{codeBytes}
@@ -18,7 +18,7 @@ use Rattle.code.specs.Codes.{codeBytes}
 abbrev pub triple : ℤ → ℤ → ℤ → Triple
 triple x y z = record { x = x; y = y; z = z }
 
-abbrev pub cell : ℤ → ℤ → ℤ → ℕ → Told Named
+abbrev pub cell : ℤ → ℤ → ℤ → ℕ → Told Cell
 cell x y z f = told (record { triple = triple x y z; flavor = f })
 
 -- UV is orientation 0, UW 2, WV 5

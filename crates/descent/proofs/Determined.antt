@@ -1,5 +1,4 @@
 -- The contract of the descent over a lent table allows one answer alone. What an answer says has a left inverse: so two answers that say the same are the same.
--- Assumes nothing.
 use mathlib.Core.Path.{_≡_, refl, ap}
 use mathlib.Core.List.{List}
 use Prim.Native.Nat.{ℕ}

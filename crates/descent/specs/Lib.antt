@@ -1,2 +1,2 @@
 pub mod Answers
-pub mod Spots
+pub mod Inside

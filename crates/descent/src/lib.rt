@@ -4,14 +4,14 @@
 ghost use mathlib.Core.Path.{_≡_};
 ghost use Rattle.tables.specs.Descent.{descentOf};
 ghost use Rattle.descent.specs.Answers.{saidDescent};
+use crate::level::reach;
 use crate::readable::is_good_table;
-use crate::spot::reach;
 use triple::Triple;
 use triple::refusal::Refusal;
 use turtle::AB;
 
+pub mod level;
 pub mod readable;
-pub mod spot;
 
 // A drawn cell, as a table has it.
 pub struct TableCell {

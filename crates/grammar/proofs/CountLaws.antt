@@ -1,5 +1,4 @@
 -- How many tokens a text has that is accepted: two for each letter that is listed, and test 12 lets no more than eight lines through.
--- Assumes nothing.
 use mathlib.Core.Path.{_≡_, refl}
 use mathlib.Core.Bool.{Bool, true, false, not, _||_, cond}
 use mathlib.Core.List.{List, [], _∷_, _++_, map}
@@ -11,7 +10,7 @@ use lib.ListN.{length, length-append, length-map}
 use Rattle.grammar.specs.Texts.{Row, shaped, Line, lineOf, rowsOf, linesOf}
 use Rattle.grammar.specs.Curves.{isNamed, namedFrom, tokenBytes}
 use Rattle.grammar.specs.Tests.{Verdict, fine, firstFrom, first, badShape, someRows, textTests}
-use Rattle.grammar.proofs.TestLaws.{no-fault, not-here}
+use Rattle.grammar.proofs.GoodLineLaws.{no-fault, not-here}
 
 -- ---- lines
 shaped-here : (before : List Row) (r : Row) → T (not (badShape before r)) → length before < 8

@@ -1,20 +1,21 @@
 -- A text cut into rows and a row into fields, in the form of what the code has in hand: the place of the next LF or space.
--- Assumes nothing.
-use mathlib.Core.Path.{_≡_, refl, sym, ap, _∙_}
+use mathlib.Core.Path.{_≡_, refl, sym, ap, _∙_, subst}
 use mathlib.Core.Bool.{Bool, true, false, not, cond, _&&_}
-use mathlib.Core.List.{List, [], _∷_}
+use mathlib.Core.List.{List, [], _∷_, head-eq-of-cons-eq, tail-eq-of-cons-eq}
 use Prim.Native.Nat.{ℕ, suc, _+_, _-_, _≤_, _<_}
 use native.Mathlib.Numerals.{add-one}
 use native.Mathlib.Omega.{arith}
+use native.Mathlib.Decide.{decLt}
 use lib.Dec.{leb, eqb, leb→le}
 use lib.ListN.{length, getD, take, drop, length-drop, drop-of-length-le}
 use lib.Seq.{drop-cons, length-take-le, drop-drop, getD-take, take-take}
 use borrow.Author.Tests.{eq-eqb, ne-eqb, not-true, not-false}
-use Rattle.whole.proofs.Bools.{both-left, both-right, from-true}
-use Rattle.grammar.specs.Texts.{Row, rowsOf, prefixed, grown, fieldsOf, shaped, Line, lineOf}
-use Rattle.grammar.proofs.ListLaws.{drop-take}
-use Rattle.grammar.specs.TextParts.{until, ended, Cut, Misshapen, Three, WholeRow, FirstRow}
-use Rattle.grammar.specs.declared.lines.Shape.{Shape}
+use Rattle.whole.proofs.Bools.{both-left, both-right, is-true, from-true}
+use Rattle.text.specs.Words.{grown, wordsOf as fieldsOf, until}
+use Rattle.grammar.specs.Texts.{Row, rowsOf, prefixed, shaped, Line, lineOf}
+use Rattle.whole.proofs.Slices.{drop-take}
+use Rattle.grammar.specs.Inside.RowCuts.{ended, Cut, Misshapen, Three, WholeRow, FirstRow}
+use Rattle.grammar.specs.declared.scan.Shape.{Shape}
 
 span : (n most : ℕ) → (leb 1 n && leb n most) ≡ true → (1 ≤ n) × (n ≤ most)
 span n most e = let t = from-true e in (leb→le 1 n (both-left (leb 1 n) (leb n most) t), leb→le n most (both-right (leb 1 n) (leb n most) t))
@@ -183,6 +184,54 @@ module _ (w : List ℕ) {a : ℕ} (ea : a ≡ until 32 w) where
                     long = omega arith;
                   }
 
+-- ---- a row that has the shape, cut at its two spaces
+shape-wrong : (w : List ℕ) → shaped (ended w) ≡ true → shaped (ended w) ≡ false → ⊥
+shape-wrong w t f = let z : _≡_ {A = ℕ} 0 1 = cc in omega arith
+
+pub record Spaced (w : List ℕ) : Type 0 where
+  pub long : ℕ
+  pub cut : Three w long (length w)
+
+module _ (w : List ℕ) (good : shaped (ended w) ≡ true) where
+  abbrev name-long : ℕ
+  name-long = until 32 w
+
+  abbrev behind-name : List ℕ
+  behind-name = drop (name-long + 1) w
+
+  abbrev rule-long : ℕ
+  rule-long = until 32 behind-name
+
+  abbrev behind-rule : List ℕ
+  behind-rule = drop (rule-long + 1) behind-name
+
+  abbrev draw-long : ℕ
+  draw-long = until 32 behind-rule
+
+  spaced : name-long < length w → rule-long < length behind-name → length behind-rule ≤ draw-long → Spaced w
+  spaced ha hk hd =
+      let name = leb 1 name-long && leb name-long 1 in
+      let rule = leb 1 rule-long && leb rule-long 24 in
+      let draw = leb 1 draw-long && leb draw-long 12 in
+      let all = from-true (sym (sizes w refl ha refl refl hk refl refl hd) ∙ good) in
+      let front = both-left (name && rule) draw all in
+      let name-good : not name ≡ false = ap not (sym (is-true name (both-left name rule front))) in
+      let rule-good : not rule ≡ false = ap not (sym (is-true rule (both-right name rule front))) in
+      let draw-good : not draw ≡ false = ap not (sym (is-true draw (both-right (name && rule) draw all))) in
+      record { long = rule-long; cut = three w refl ha refl refl hk refl refl hd refl name-good refl rule-good refl draw-good }
+
+  pub shaped-three : Spaced w
+  shaped-three = elim (decLt name-long (length w)) [
+    | no h ↦ absurd (shape-wrong w good (one-field w refl (omega arith)))
+    | yes ha ↦ elim (decLt rule-long (length behind-name)) [
+      | no h ↦ absurd (shape-wrong w good (two-fields w refl ha refl refl (omega arith)))
+      | yes hk ↦ elim (decLt draw-long (length behind-rule)) [
+        | yes h ↦ absurd (shape-wrong w good (four-fields w refl ha refl refl hk refl refl h))
+        | no hd ↦ spaced ha hk (omega arith)
+      ]
+    ]
+  ]
+
 -- ---- the first row, by the place of its LF
 never-ended : (t : List ℕ) → 0 < length t → until 10 t ≡ length t → Misshapen t
 unfolding shaped
@@ -221,5 +270,38 @@ module _ (t : List ℕ) {n : ℕ} (en : n ≡ until 10 t) where
     pub first-shape : (s : Shape) → WholeRow w s → FirstRow t s
     first-shape (Shape.Line k m) p = first-line p
     first-shape Shape.Other p = other-row p
+
+-- ---- a text whose first row has the shape
+pub record FirstLine (t : List ℕ) (r : Row) (rest : List Row) : Type 0 where
+  pub long : ℕ
+  pub wide : ℕ
+  pub cut : Cut t long wide
+  pub here : r ≡ ended (take wide t)
+  pub behind : rest ≡ rowsOf (drop (suc wide) t)
+
+some-bytes : (t : List ℕ) {r : Row} {rest : List Row} → rowsOf t ≡ r ∷ rest → 0 < length t
+unfolding rowsOf
+some-bytes [] {rest = rest} e = absurd (let z : 0 ≡ suc (length rest) = ap length e in omega arith)
+some-bytes (b ∷ t) e = omega arith
+
+module _ (t : List ℕ) {r : Row} {rest : List Row} (e : rowsOf t ≡ r ∷ rest) (good : shaped r ≡ true) where
+  unended-row : Misshapen t → ⊥
+  unended-row m = let same : r ≡ m .row = head-eq-of-cons-eq (sym e ∙ m .rows) in let bad = m .bad in let z : _≡_ {A = ℕ} 0 1 = cc in omega arith
+
+  ended-row : until 10 t < length t → FirstLine t r rest
+  ended-row h =
+      let n = until 10 t in
+      let same = sym e ∙ rows-ended t h in
+      let three = shaped-three (take n t) (sym (ap shaped (head-eq-of-cons-eq same)) ∙ good) in
+      record {
+        long = three .long;
+        wide = n;
+        cut = subst (Cut t (three .long)) (length-take-le n t (omega arith)) (first-line t refl h refl (three .cut));
+        here = head-eq-of-cons-eq same;
+        behind = tail-eq-of-cons-eq same;
+      }
+
+  pub shaped-first : FirstLine t r rest
+  shaped-first = elim (decLt (until 10 t) (length t)) [ yes h ↦ ended-row h | no h ↦ absurd (unended-row (no-end t refl (some-bytes t e) (omega arith))) ]
 
 pub ruleset shapes = (one-field, two-fields, four-fields, bad-name, bad-rule, bad-draw, three)

@@ -1,5 +1,4 @@
 -- One expansion pass, byte by byte, in the form of what the code has in hand: the room that is left over, and the buffer so far.
--- Assumes nothing.
 use mathlib.Core.Path.{_≡_, refl, sym, ap, _∙_}
 use mathlib.Core.Bool.{true, false}
 use mathlib.Core.List.{List, [], _∷_, _++_, append-nil}
@@ -17,7 +16,7 @@ use Rattle.grammar.specs.declared.word.WordAnswer.the-variants.{Written}
 use Rattle.grammar.specs.Words.{wordOf, expandOnce}
 use Rattle.grammar.specs.WordAnswers.{saidWord, writtenTo, afterWord}
 use Rattle.grammar.proofs.ReversalLaws.{pass-append}
-use Rattle.grammar.proofs.WordLaws.{written}
+use Rattle.grammar.proofs.WordByteLaws.{written}
 
 -- ---- one pass
 

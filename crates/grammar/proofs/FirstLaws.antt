@@ -1,5 +1,4 @@
 -- The first line at fault, as a loop over the lines finds it: the lines before the i-th are not at fault.
--- Assumes nothing.
 use mathlib.Core.Path.{_≡_, refl, ap}
 use mathlib.Core.Bool.{Bool, true, false}
 use mathlib.Core.List.{List}

@@ -11,19 +11,19 @@ use Rattle.turtle.specs.declared.walk.Turtle.{Turtle}
 use Rattle.turtle.specs.Plane.{_⊕_, signed, facing}
 use Rattle.turtle.specs.Walk.{Sym, left, right, letter, turtle, start, move, cells, final}
 use Rattle.turtle.proofs.WordLaws.{final-from}
-use Rattle.grammar.specs.Curves.{turned, letters}
+use Rattle.grammar.specs.Curves.{turned, letterCount}
 use Rattle.grammar.proofs.Grammars.{Grammar, graft, expand, drawn, netOf}
 
 -- ---- letters and turns of a word
-pub letters-append : {A : Type 0} (w u : List (Sym A)) → letters (w ++ u) ≡ letters w + letters u
-unfolding letters
+pub letters-append : {A : Type 0} (w u : List (Sym A)) → letterCount (w ++ u) ≡ letterCount w + letterCount u
+unfolding letterCount
 letters-append [] u = omega arith
 letters-append (left ∷ w) u = letters-append w u
 letters-append (right ∷ w) u = letters-append w u
 letters-append (letter a ∷ w) u = omega (arith, letters-append w u)
 
-pub length-cells : (w : List (Sym Stroke)) (t : Turtle) → length (cells w t) ≡ letters w
-unfolding cells letters
+pub length-cells : (w : List (Sym Stroke)) (t : Turtle) → length (cells w t) ≡ letterCount w
+unfolding cells letterCount
 length-cells [] t = refl
 length-cells (left ∷ w) t = length-cells w (move left t)
 length-cells (right ∷ w) t = length-cells w (move right t)
@@ -80,7 +80,7 @@ module _ (g : Grammar) where
 -- ---- every token's walk with r passes ends at heading 0, and has 4 ^ r strokes
 pub record Level (g : Grammar) (r : ℕ) : Type 0 where
   pub home : (m : ℕ) → m < g .tokens → final (drawn g r (letter m ∷ [])) start ≡ turtle (netOf g r m) 0
-  pub size : (m : ℕ) → m < g .tokens → letters (drawn g r (letter m ∷ [])) ≡ 4 ^ r
+  pub size : (m : ℕ) → m < g .tokens → letterCount (drawn g r (letter m ∷ [])) ≡ 4 ^ r
 
 -- so it is from where a child may be met
 module _ (g : Grammar) (r : ℕ) (l : Level g r) (m : ℕ) (b : m < g .tokens) where

@@ -10,7 +10,7 @@ use Rattle.turtle.specs.Plane.{_⊕_, facing}
 use Rattle.turtle.specs.Walk.{Sym, left, right, letter, symbolsOf, start, final}
 use Rattle.grammar.specs.Words.{wordOf}
 use Rattle.grammar.specs.Texts.{Line}
-use Rattle.grammar.specs.Curves.{rules, draws, tokenBytes, letterOf, childrenOf, turned, letters}
+use Rattle.grammar.specs.Curves.{rules, draws, tokenBytes, letterOf, ruleSymbols, turned, letterCount}
 
 -- meant at the tokens below `tokens`
 pub record Grammar : Type 0 where
@@ -21,7 +21,7 @@ pub record Grammar : Type 0 where
 unfoldable pub grammarOf : List Line → Grammar
 grammarOf ls = record {
   tokens = length (tokenBytes ls);
-  rule = λ m. childrenOf ls (wordOf (rules ls) (letterOf ls m));
+  rule = λ m. ruleSymbols ls (wordOf (rules ls) (letterOf ls m));
   draw = λ m. symbolsOf (wordOf (draws ls) (letterOf ls m));
 }
 
@@ -54,9 +54,9 @@ Upright g h (letter m ∷ w) = (h ≡ facing (eqb h 3)) × (m < g .tokens) × Up
 
 -- what is asked of a grammar, of each of its tokens
 pub record Accepted (g : Grammar) : Type 0 where
-  pub four : (m : ℕ) → m < g .tokens → letters (g .rule m) ≡ 4
+  pub four : (m : ℕ) → m < g .tokens → letterCount (g .rule m) ≡ 4
   pub faced : (m : ℕ) → m < g .tokens → Upright g 0 (g .rule m)
   pub rule-turns : (m : ℕ) → m < g .tokens → turned 0 (g .rule m) ≡ 0
-  pub single : (m : ℕ) → m < g .tokens → letters (g .draw m) ≡ 1
+  pub single : (m : ℕ) → m < g .tokens → letterCount (g .draw m) ≡ 1
   pub draw-turns : (m : ℕ) → m < g .tokens → turned 0 (g .draw m) ≡ 0
   pub twice : (m : ℕ) → m < g .tokens → netOf g 2 m ≡ netOf g 1 m ⊕ netOf g 1 m

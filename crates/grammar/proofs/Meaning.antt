@@ -1,6 +1,5 @@
 -- What a text means that the tests 12 to 19 find fine: its lines are an accepted grammar, what they draw is what that grammar draws, and what is asked after the tests is fine.
 -- The idea: a lowercase letter has its uppercase letter's words reversed, and a reverse has as many letters, turns back, and steps as far.
--- Assumes nothing.
 use mathlib.Core.Path.{_≡_, refl, sym, ap, _∙_}
 use mathlib.Core.Bool.{Bool, true, false, _||_}
 use mathlib.Core.List.{List, [], _∷_, _++_, List·Memᴰ}
@@ -14,13 +13,13 @@ use Rattle.turtle.specs.Plane.{_⊕_, facing}
 use Rattle.turtle.specs.Walk.{letter, symbolsOf, start, final}
 use Rattle.grammar.specs.Words.{isUpper, mirrored, reversed, wordOf, expandOnce}
 use Rattle.grammar.specs.Texts.{Line, linesOf}
-use Rattle.grammar.specs.Curves.{bookBy, isNamed, rules, draws, passes, strokes, net, tokenBytes, letterOf, tokenOf, childOf, childrenOf, turned, upright}
+use Rattle.grammar.specs.Curves.{bookBy, isNamed, rules, draws, passes, strokes, net, tokenBytes, letterOf, tokenOf, ruleSymbol, ruleSymbols, turned, upright}
 use Rattle.grammar.specs.Tests.{Verdict, fine, textTests}
 use Rattle.grammar.proofs.Grammars.{grammarOf, graft, expand, drawn, netOf, Upright, Accepted}
 use Rattle.grammar.proofs.ReversalLaws.{reversed-reversed, word-mirrored, pass-reversed}
 use Rattle.grammar.proofs.MirrorLaws.{mirror-letters, mirror-turned, reversed-letters, reversed-turned, reversed-final}
-use Rattle.grammar.proofs.TestLaws.{Fair, Good, good-lines}
-pub use Rattle.grammar.proofs.TestLaws.{rest-fine}
+use Rattle.grammar.proofs.GoodLineLaws.{Fair, Good, good-lines}
+pub use Rattle.grammar.proofs.GoodLineLaws.{rest-fine}
 use Rattle.grammar.proofs.TokenLaws.{named, Motif, forward, backward, motif-child, token-below, token-letter, no-word, token-motif}
 use Rattle.grammar.proofs.PassLaws.{Lawful, done, plus, minus, child, lawful, lawful-reversed, children-mirror, children-reading, symbols-reading, pass-lawful, pass-graft, pass-turned}
 
@@ -34,14 +33,14 @@ faced-at h t = go (eqb h 0) refl (eqb h 3) refl t
     go true e false f t = eqb-true h 0 e
     go false e false f t = absurd t
 
-lawful-upright : {ls : List Line} {w : List ℕ} → Lawful ls w → (h : ℕ) → T (upright h (childrenOf ls w)) → Upright (grammarOf ls) h (childrenOf ls w)
-unfolding childrenOf childOf upright Upright grammarOf
+lawful-upright : {ls : List Line} {w : List ℕ} → Lawful ls w → (h : ℕ) → T (upright h (ruleSymbols ls w)) → Upright (grammarOf ls) h (ruleSymbols ls w)
+unfolding ruleSymbols ruleSymbol upright Upright grammarOf
 lawful-upright done h t = tt
 lawful-upright (plus l) h t = lawful-upright l ((h + 1) % 6) t
 lawful-upright (minus l) h t = lawful-upright l ((h + 5) % 6) t
 lawful-upright {ls} (child {w = w} m l) h t =
     let u = rw (motif-child m) at t in
-    rw (motif-child m) (faced-at h (both-left (eqb h 0 || eqb h 3) (upright h (childrenOf ls w)) u), token-below m, lawful-upright l h (both-right (eqb h 0 || eqb h 3) (upright h (childrenOf ls w)) u))
+    rw (motif-child m) (faced-at h (both-left (eqb h 0 || eqb h 3) (upright h (ruleSymbols ls w)) u), token-below m, lawful-upright l h (both-right (eqb h 0 || eqb h 3) (upright h (ruleSymbols ls w)) u))
 
 -- ---- what a lawful rule and a draw have, their reverses have
 fair-reversed : {ls : List Line} {rule draw : List ℕ} → Lawful ls rule → Fair ls rule draw → Fair ls (reversed rule) (reversed draw)
@@ -84,28 +83,28 @@ module _ (ls : List Line) (ok : (l : Line) → List·Memᴰ l ls → Good ls l) 
   lawful-pass : {w : List ℕ} → Lawful ls w → Lawful ls (expandOnce (rules ls) w)
   lawful-pass = pass-lawful ls uppercase (λ l. l .rule) (λ b m. words b m .lawful)
 
-  rule-pass : {w : List ℕ} → Lawful ls w → childrenOf ls (expandOnce (rules ls) w) ≡ graft (grammarOf ls .rule) (childrenOf ls w)
+  rule-pass : {w : List ℕ} → Lawful ls w → ruleSymbols ls (expandOnce (rules ls) w) ≡ graft (grammarOf ls .rule) (ruleSymbols ls w)
   unfolding grammarOf
   rule-pass = pass-graft ls uppercase (λ l. l .rule) (children-reading ls)
 
-  draw-pass : {w : List ℕ} → Lawful ls w → symbolsOf (expandOnce (draws ls) w) ≡ graft (grammarOf ls .draw) (childrenOf ls w)
+  draw-pass : {w : List ℕ} → Lawful ls w → symbolsOf (expandOnce (draws ls) w) ≡ graft (grammarOf ls .draw) (ruleSymbols ls w)
   unfolding grammarOf
   draw-pass = pass-graft ls uppercase (λ l. l .draw) symbols-reading
 
-  word-linked : (r : ℕ) {w : List ℕ} → Lawful ls w → symbolsOf (expandOnce (draws ls) (passes ls r w)) ≡ drawn (grammarOf ls) r (childrenOf ls w)
+  word-linked : (r : ℕ) {w : List ℕ} → Lawful ls w → symbolsOf (expandOnce (draws ls) (passes ls r w)) ≡ drawn (grammarOf ls) r (ruleSymbols ls w)
   unfolding passes drawn expand
   word-linked zero l = draw-pass l
   word-linked (suc r) l = rw (← (rule-pass l)) (word-linked r (lawful-pass l))
 
   -- ---- what a token draws
-  lone : {b : ℕ} → Motif ls b → childrenOf ls (b ∷ []) ≡ letter (tokenOf ls b) ∷ []
-  unfolding childrenOf
+  lone : {b : ℕ} → Motif ls b → ruleSymbols ls (b ∷ []) ≡ letter (tokenOf ls b) ∷ []
+  unfolding ruleSymbols
   lone m = rw (motif-child m)
 
   same-letter : (r m n : ℕ) → letterOf ls m ≡ letterOf ls n → drawn (grammarOf ls) r (letter m ∷ []) ≡ drawn (grammarOf ls) r (letter n ∷ [])
   unfolding drawn expand graft grammarOf
   same-letter zero m n e = ap (λ b. symbolsOf (wordOf (draws ls) b) ++ []) e
-  same-letter (suc r) m n e = ap (λ b. drawn (grammarOf ls) r (childrenOf ls (wordOf (rules ls) b) ++ [])) e
+  same-letter (suc r) m n e = ap (λ b. drawn (grammarOf ls) r (ruleSymbols ls (wordOf (rules ls) b) ++ [])) e
 
   linked-lines : (r m : ℕ) → m < length (tokenBytes ls) → strokes ls r (letterOf ls m) ≡ drawn (grammarOf ls) r (letter m ∷ [])
   unfolding strokes
@@ -114,7 +113,7 @@ module _ (ls : List Line) (ok : (l : Line) → List·Memᴰ l ls → Good ls l) 
       word-linked r (child t done) ∙ rw (lone t) (same-letter r _ m (token-letter t))
 
   -- ---- its walk ends at heading 0
-  word-turned : (r : ℕ) {w : List ℕ} → Lawful ls w → turned 0 (symbolsOf (expandOnce (draws ls) (passes ls r w))) ≡ turned 0 (childrenOf ls w)
+  word-turned : (r : ℕ) {w : List ℕ} → Lawful ls w → turned 0 (symbolsOf (expandOnce (draws ls) (passes ls r w))) ≡ turned 0 (ruleSymbols ls w)
   unfolding passes
   word-turned zero l = pass-turned ls uppercase (λ l. l .draw) symbols-reading (λ b m. words b m .fair .draw-turns) l 0 (omega arith)
   word-turned (suc r) l =

@@ -1,5 +1,4 @@
 -- A word of symbols and its mirror, which undoes its turns and meets its letters from the last on. The mirror has as many letters, turns back, and steps as far.
--- Assumes nothing.
 use mathlib.Core.Path.{_≡_, refl, sym, ap, _∙_}
 use mathlib.Core.Bool.{false}
 use mathlib.Core.List.{List, [], _∷_, _++_, append-nil}
@@ -17,7 +16,7 @@ use Rattle.turtle.specs.Walk.{Sym, left, right, letter, drawn, symbolOf, symbol
 use Rattle.turtle.proofs.PlaneLaws.{⊕-assoc, ⊕-comm, ⊕-idl, ⊕-idr}
 use Rattle.turtle.proofs.SymbolLaws.{symbols-append, stepped, case-step}
 use Rattle.grammar.specs.Words.{mirrored, reversed}
-use Rattle.grammar.specs.Curves.{turned, letters}
+use Rattle.grammar.specs.Curves.{turned, letterCount}
 use Rattle.grammar.proofs.GrammarLaws.{letters-append}
 use Rattle.grammar.proofs.TurnLaws.{turned-append, turned-small}
 use Rattle.grammar.proofs.ReversalLaws.{Byte, plus, minus, big, small, other, byte, mirrored-big, mirrored-small, mirrored-other, reversed-cons}
@@ -31,8 +30,8 @@ pub data Mirror {A : Type 0} (R : A → A → Type 0) : List (Sym A) → List (S
   joined : {w v x y : List (Sym A)} → Mirror R w v → Mirror R x y → Mirror R (w ++ x) (y ++ v)
 
 -- ---- letters
-pub mirror-letters : {A : Type 0} {R : A → A → Type 0} {w v : List (Sym A)} → Mirror R w v → letters v ≡ letters w
-unfolding letters
+pub mirror-letters : {A : Type 0} {R : A → A → Type 0} {w v : List (Sym A)} → Mirror R w v → letterCount v ≡ letterCount w
+unfolding letterCount
 mirror-letters blank = refl
 mirror-letters leftward = refl
 mirror-letters rightward = refl
@@ -114,7 +113,7 @@ unfolding symbolsOf
 symbols-mirror [] = unfold reversed in blank
 symbols-mirror (b ∷ w) = rw (reversed-cons, symbols-append, append-nil) (joined (symbol-mirror b) (symbols-mirror w))
 
-pub reversed-letters : (w : List ℕ) → letters (symbolsOf (reversed w)) ≡ letters (symbolsOf w)
+pub reversed-letters : (w : List ℕ) → letterCount (symbolsOf (reversed w)) ≡ letterCount (symbolsOf w)
 reversed-letters w = mirror-letters (symbols-mirror w)
 
 pub reversed-turned : (w : List ℕ) → turned 0 (symbolsOf w) ≡ 0 → turned 0 (symbolsOf (reversed w)) ≡ 0

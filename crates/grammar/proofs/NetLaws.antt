@@ -1,140 +1,47 @@
--- Test 19 in the form of what the code has in hand: the lines' books, passes that fit into buffers, a walk byte by byte that never gets far, and two nets compared.
--- Assumes nothing.
+-- Test 19 in the form of what the code has in hand: a walk byte by byte that never gets far, and two nets compared.
 use mathlib.Core.Path.{_≡_, refl, sym, ap, _∙_, subst}
-use mathlib.Core.Bool.{Bool, true, false, not, cond, _&&_}
-use mathlib.Core.List.{List, [], _∷_, _++_, append-nil}
-use mathlib.Core.Option.{Option, none, some}
-use Prim.Native.Nat.{ℕ, zero, suc, _+_, _*_, _≤_, _<_, min}
-use native.Mathlib.Nat.{mul-suc, mod-eq-of-lt}
+use mathlib.Core.Bool.{Bool, true, false, not, cond}
+use mathlib.Core.List.{List, [], _∷_, append-nil}
+use Prim.Native.Nat.{ℕ, _+_, _*_, _≤_, _<_}
+use native.Mathlib.Nat.{mod-eq-of-lt}
 use native.Mathlib.Numerals.{add-one}
 use native.Mathlib.Omega.{arith}
-use lib.Dec.{T, eqb, le→leb}
-use lib.IntN.{ℤ, pos, negsuc}
-use lib.Signed.{leZ}
-use lib.ListN.{length, getD, take, drop, length-append, length-take}
-use lib.Seq.{take-suc, take-all, take-at}
-use borrow.Author.Tests.{le-ltb}
-use Rattle.whole.proofs.Bools.{both, is-true, is-false}
+use lib.Dec.{eqb}
+use lib.IntN.{pos}
+use lib.ListN.{length, getD, take, drop, length-take}
+use lib.Seq.{take-suc, take-all}
+use Rattle.whole.proofs.Bools.{is-true, is-false}
 use Rattle.whole.proofs.View.{view, v-var, le-by, le-of}
-use Rattle.triple.specs.declared.refusal.Refusal.{Refusal}
-use Rattle.triple.specs.Refusals.{told}
 use Rattle.turtle.specs.declared.AB.{AB}
 use Rattle.turtle.specs.declared.letter.Letter.{Letter}
 use Rattle.turtle.specs.declared.letter.Stroke.{Stroke}
-use Rattle.turtle.specs.declared.walk.Cell.{Cell}
+use Rattle.turtle.specs.declared.walk.DrawnCell.{DrawnCell}
 use Rattle.turtle.specs.declared.walk.Turtle.{Turtle}
 use Rattle.turtle.specs.declared.walk.Stepped.{Stepped}
 use Rattle.turtle.specs.Letters.{strokeOf}
 use Rattle.turtle.specs.Plane.{origin, _⊕_, far, equalAB}
-use Rattle.turtle.specs.Sizes.{Within, Small}
+use Rattle.turtle.specs.Inside.Sizes.{Within, Small}
 use Rattle.turtle.specs.Walk.{Sym, left, right, letter, drawn, symbolOf, symbolsOf, start, move, final, stepBy, stepOf, cornersBy, cornersOf}
+use Rattle.turtle.proofs.EqualLaws.{equal-pairs, pairs-equal}
 use Rattle.turtle.proofs.LetterLaws.{stroke-small}
 use Rattle.turtle.proofs.SymbolLaws.{symbols-append}
-use Rattle.turtle.proofs.WalkLaws.{small-more, rots-small, add-small, far-is}
+use Rattle.turtle.proofs.WalkLaws.{small-more, rots-small, add-small}
+use Rattle.turtle.proofs.LimitLaws.{far-false}
 use Rattle.turtle.proofs.WordLaws.{final-append}
 use Rattle.grammar.specs.declared.lines.Lines.{Lines}
 use Rattle.grammar.specs.declared.word.Book.{Book}
 use Rattle.grammar.specs.declared.word.WordAnswer.{WordAnswer}
-use Rattle.grammar.specs.Words.{upper, bySelf, byBook, wordOf, expandOnce}
-use Rattle.grammar.specs.WordAnswers.{saidWord, writtenTo, afterWord}
-use Rattle.grammar.specs.Books.{rowWord, rowsWord, bookOf}
+use Rattle.grammar.specs.Words.{expandOnce}
+use Rattle.grammar.specs.WordAnswers.{saidWord, written, writtenTo, afterWord}
+use Rattle.grammar.specs.Books.{bookOf}
 use Rattle.grammar.specs.Texts.{Line}
 use Rattle.grammar.specs.Curves.{rules, draws, passes, strokes, net}
 use Rattle.grammar.specs.Tests.{badNet}
-use Rattle.grammar.specs.TextParts.{linesFrom, linesBy, Sized, ruleBook, drawBook}
+use Rattle.grammar.specs.Inside.Places.{linesBy, Sized}
+use Rattle.grammar.specs.Scans.{drawBook}
+use Rattle.grammar.proofs.BookPassLaws.{rules-written, rules-count, draws-cut, draws-most}
 use Rattle.grammar.proofs.TurnLaws.{turned-small}
 use Rattle.grammar.proofs.GrammarLaws.{final-heading}
-use Rattle.grammar.proofs.WordLaws.{length-reversed}
-use Rattle.grammar.proofs.TestLaws.{equal-pairs}
-
--- ---- books
-module _ (text : List ℕ) (ls : Lines) where
-  rule-rows : (b k i : ℕ) → rowsWord text (ls .name) (ls .rule) (ls .«rule_len») b k i ≡ rules (linesFrom text ls k i) b
-  unfolding rowsWord linesFrom
-  rule-rows b zero i = refl
-  rule-rows b (suc k) i = ap (cond (eqb (getD (ls .name) i 0) b) (some (rowWord text (ls .rule) (ls .«rule_len») i))) (rule-rows b k (suc i))
-
-  draw-rows : (b k i : ℕ) → rowsWord text (ls .name) (ls .draw) (ls .«draw_len») b k i ≡ draws (linesFrom text ls k i) b
-  unfolding rowsWord linesFrom
-  draw-rows b zero i = refl
-  draw-rows b (suc k) i = ap (cond (eqb (getD (ls .name) i 0) b) (some (rowWord text (ls .draw) (ls .«draw_len») i))) (draw-rows b k (suc i))
-
-  pub book-rules : bookOf text (ruleBook ls) ≡ rules (linesBy text ls)
-  unfolding bookOf linesBy
-  book-rules = λ i b. rule-rows b (min (ls .count) 8) 0 i
-
-  pub book-draws : bookOf text (drawBook ls) ≡ draws (linesBy text ls)
-  unfolding bookOf linesBy
-  book-draws = λ i b. draw-rows b (min (ls .count) 8) 0 i
-
--- ---- how long a pass is, where no word of the book is longer than k
-abbrev Most : ℕ → Option (List ℕ) → Type 0
-Most k (some w) = length w ≤ k
-Most k none = Unit {0}
-
-module _ (book : ℕ → Option (List ℕ)) (k : ℕ) (some-room : 1 ≤ k) (most : (b : ℕ) → Most k (book b)) where
-  self-most : (b : ℕ) (u : Option (List ℕ)) → Most k u → length (bySelf b u) ≤ k
-  self-most b (some u) h = rw (length-reversed u) h
-  self-most b none h = some-room
-
-  book-most : (b : ℕ) (w : Option (List ℕ)) → Most k w → length (byBook book b w) ≤ k
-  book-most b (some w) h = h
-  book-most b none h = self-most b (book (upper b)) (most (upper b))
-
-  word-most : (b : ℕ) → length (wordOf book b) ≤ k
-  unfolding wordOf
-  word-most b = book-most b (book b) (most b)
-
-  pass-most : (w : List ℕ) → length (expandOnce book w) ≤ k * length w
-  unfolding expandOnce
-  pass-most [] = omega arith
-  pass-most (b ∷ w) = rw length-append (omega (arith, word-most b, pass-most w, mul-suc k (length w)))
-
--- the lines' books
-module _ (text : List ℕ) (ls : Lines) (sized : Sized ls) where
-  part-most : (n from k : ℕ) → n ≤ k → length (take n (drop from text)) ≤ k
-  part-most n from k h = rw length-take (omega arith)
-
-  chosen : (t : Bool) (k : ℕ) (w : List ℕ) (rest : Option (List ℕ)) → length w ≤ k → Most k rest → Most k (cond t (some w) rest)
-  chosen true k w rest h g = h
-  chosen false k w rest h g = g
-
-  rules-most : (k i b : ℕ) → Most 24 (rules (linesFrom text ls k i) b)
-  unfolding linesFrom
-  rules-most zero i b = tt
-  rules-most (suc k) i b = chosen (eqb (getD (ls .name) i 0) b) 24 (rowWord text (ls .rule) (ls .«rule_len») i) (rules (linesFrom text ls k (suc i)) b) (part-most (getD (ls .«rule_len») i 0) (getD (ls .rule) i 0) 24 (sized .rules i)) (rules-most k (suc i) b)
-
-  draws-most : (k i b : ℕ) → Most 12 (draws (linesFrom text ls k i) b)
-  unfolding linesFrom
-  draws-most zero i b = tt
-  draws-most (suc k) i b = chosen (eqb (getD (ls .name) i 0) b) 12 (rowWord text (ls .draw) (ls .«draw_len») i) (draws (linesFrom text ls k (suc i)) b) (part-most (getD (ls .«draw_len») i 0) (getD (ls .draw) i 0) 12 (sized .draws i)) (draws-most k (suc i) b)
-
-  pub rule-pass-most : (w : List ℕ) → length (expandOnce (rules (linesBy text ls)) w) ≤ 24 * length w
-  unfolding linesBy
-  rule-pass-most w = pass-most (rules (linesFrom text ls (min (ls .count) 8) 0)) 24 (omega arith) (rules-most (min (ls .count) 8) 0) w
-
-  pub draw-pass-most : (w : List ℕ) → length (expandOnce (draws (linesBy text ls)) w) ≤ 12 * length w
-  unfolding linesBy
-  draw-pass-most w = pass-most (draws (linesFrom text ls (min (ls .count) 8) 0)) 12 (omega arith) (draws-most (min (ls .count) 8) 0) w
-
--- ---- a pass into a buffer with room for it
-module _ (word buffer : List ℕ) (a : WordAnswer) {last : List ℕ} (room : length word ≤ length buffer)
-    (w : (saidWord a ≡ writtenTo word buffer) × (last ≡ afterWord word buffer)) where
-  written-said : saidWord a ≡ told (length word)
-  unfolding writtenTo
-  written-said = w .0 ∙ (rw (le-ltb (length buffer) (length word) room) refl)
-
-  written-last : last ≡ word ++ drop (length word) buffer
-  unfolding afterWord
-  written-last = w .1 ∙ (rw (le-ltb (length buffer) (length word) room) refl)
-
-  pub pass-written : {n : ℕ} → a ≡ WordAnswer.Written n → take n last ≡ word
-  pass-written {n} e =
-      let long : n ≡ length word = cc written-said in
-      rw (long, written-last) (take-at word (drop (length word) buffer) (length word) refl)
-
-  pub pass-refused : {e : Refusal} → a ≡ WordAnswer.Refused e → take 0 last ≡ word
-  pass-refused e = let z : _≡_ {A = ℕ} 0 1 = cc written-said in absurd (omega arith)
 
 -- ---- a walk's step
 after : Stepped → Turtle → Turtle
@@ -171,8 +78,10 @@ near {p} s =
     let ah = le-of va (search view) tt (s .a .high) in
     let bl = le-of (search view) vb tt (s .b .low) in
     let bh = le-of vb (search view) tt (s .b .high) in
-    far-is p false (λ e. absurd (let z : _≡_ {A = ℕ} 0 1 = cc in omega arith))
-    (λ e. (le-by (search view) va tt (omega arith), (le-by va (search view) tt (omega arith), (le-by (search view) vb tt (omega arith), (le-by vb (search view) tt (omega arith), tt)))))
+    far-false p (record {
+      a = record { low = le-by (search view) va tt (omega arith); high = le-by va (search view) tt (omega arith) };
+      b = record { low = le-by (search view) vb tt (omega arith); high = le-by vb (search view) tt (omega arith) };
+    })
 
 module _ (b : ℕ) (t : Turtle) (small : Small 65536 (t .at) × (t .heading < 6)) where
   pub step-near : stepOf b t ≡ stepBy (symbolOf b) t
@@ -187,7 +96,7 @@ module _ (b : ℕ) (t : Turtle) (small : Small 65536 (t .at) × (t .heading < 6)
   step-after e = ap (λ s. after s t) (e ∙ step-near) ∙ after-symbols (symbolOf b) (one-symbol b) t
 
   module _ {s : Stepped} (e : s ≡ stepOf b t) where
-    pub step-drew : {c : Cell} {n : Turtle} → s ≡ Stepped.Drew c n → n ≡ final (symbolOf b) t
+    pub step-drew : {c : DrawnCell} {n : Turtle} → s ≡ Stepped.Drew c n → n ≡ final (symbolOf b) t
     unfolding after
     step-drew f = sym (ap (λ s. after s t) f) ∙ step-after e
 
@@ -252,15 +161,6 @@ module _ {w : List ℕ} {t : Turtle} {i : ℕ} (so-far : Walking w t i) where
   walk-end h k l = (ap (λ t. t .at) (so-far .ends) ∙ (rw (take-all i w l) refl), small-more (omega arith) (so-far .small))
 
 -- ---- two nets compared
-equal-refl : (x : ℤ) → T (leZ x x)
-equal-refl (pos n) = le→leb n n (omega arith)
-equal-refl (negsuc n) = le→leb n n (omega arith)
-
-pairs-equal : (p q : AB) → p ≡ q → T (equalAB p q)
-pairs-equal p q e =
-    subst (λ q. T (equalAB p q)) e
-    (both (leZ (p .a) (p .a) && leZ (p .a) (p .a)) (leZ (p .b) (p .b) && leZ (p .b) (p .b)) (both (leZ (p .a) (p .a)) (leZ (p .a) (p .a)) (equal-refl (p .a)) (equal-refl (p .a))) (both (leZ (p .b) (p .b)) (leZ (p .b) (p .b)) (equal-refl (p .b)) (equal-refl (p .b))))
-
 pub twice-is : (p q : AB) (t : Bool) → (t ≡ true → p ≡ q) → (t ≡ false → p ≡ q → ⊥) → t ≡ equalAB p q
 twice-is p q true h k = is-true (equalAB p q) (pairs-equal p q (h refl))
 twice-is p q false h k = is-false (equalAB p q) (λ t. k refl (equal-pairs p q t))
@@ -269,47 +169,43 @@ pub twice-not : (p q : AB) → (p ≡ q → ⊥) → false ≡ equalAB p q
 twice-not p q h = is-false (equalAB p q) (λ t. h (equal-pairs p q t))
 
 -- ---- the nets
-module _ (text : List ℕ) (ls : Lines) (sized : Sized ls) where
-  module _ {book : Book} (book-is : book ≡ drawBook ls) (w : List ℕ) where
-    pub drawn-pass : expandOnce (bookOf text book) w ≡ expandOnce (draws (linesBy text ls)) w
-    drawn-pass = rw (book-is, book-draws text ls) refl
+-- the draws of a word, into a buffer with room for twelve bytes each
+module _ (text : List ℕ) {ls : Lines} (sized : Sized ls) (w : List ℕ) (few : length w ≤ 576) {book : Book} (book-is : book ≡ drawBook ls) (buffer : List ℕ) (a : WordAnswer) {last : List ℕ}
+    (said : saidWord a ≡ writtenTo (expandOnce (bookOf text book) w) buffer) (left : last ≡ afterWord (expandOnce (bookOf text book) w) buffer) {n : ℕ} (count : n ≡ written (saidWord a)) (room : 6912 ≤ length buffer)
+    {v : List ℕ} (cut : v ≡ take n (drop 0 last)) where
+  pub drawn-long : length v ≤ 8192
+  drawn-long = draws-most text sized w buffer a said left count book-is (omega arith) cut (omega arith)
 
-    pub drawn-room : length w ≤ 576 → length (expandOnce (bookOf text book) w) ≤ 6912
-    drawn-room h = rw drawn-pass (omega (arith, draw-pass-most text ls sized w))
+  pub drawn-ends : {p : AB} → p ≡ final (symbolsOf v) start .at → p ≡ final (symbolsOf (expandOnce (draws (linesBy text ls)) w)) start .at
+  drawn-ends e = e ∙ ap (λ v. final (symbolsOf v) start .at) (draws-cut text sized w buffer a said left count book-is (omega arith) cut)
 
-    module _ (n : ℕ) (last : List ℕ) {v : List ℕ} (filled : take n last ≡ expandOnce (bookOf text book) w) (v-is : v ≡ take n (drop 0 last)) where
-      drawn-word : v ≡ expandOnce (draws (linesBy text ls)) w
-      drawn-word = v-is ∙ filled ∙ drawn-pass
+-- a word that is cut off behind its last byte
+module _ (last : List ℕ) (n : ℕ) {v : List ℕ} (cut : v ≡ take n (drop 0 last)) where
+  pub cut-most : {k : ℕ} → n ≤ k → length v ≤ k
+  cut-most h = rw (cut, length-take) (omega arith)
 
-      pub drawn-long : length w ≤ 576 → length v ≤ 8192
-      drawn-long h = rw drawn-word (omega (arith, draw-pass-most text ls sized w))
+  pub cut-ruled : (w : List ℕ) → n ≤ 24 * length w → length w ≤ 24 → length v ≤ 576
+  cut-ruled w h k = cut-most (omega arith)
 
-      pub drawn-ends : {p : AB} → (p ≡ final (symbolsOf v) start .at) × Small 65536 p → (p ≡ final (symbolsOf (expandOnce (draws (linesBy text ls)) w)) start .at) × Small 65536 p
-      drawn-ends e = (e .0 ∙ ap (λ v. final (symbolsOf v) start .at) drawn-word, e .1)
+  pub cut-ends : (ls : List Line) {w : List ℕ} → take n last ≡ w → {p : AB} → p ≡ final (symbolsOf (expandOnce (draws ls) v)) start .at → p ≡ final (symbolsOf (expandOnce (draws ls) w)) start .at
+  cut-ends ls written e = e ∙ ap (λ v. final (symbolsOf (expandOnce (draws ls) v)) start .at) (cut ∙ written)
 
-  module _ {book : Book} (book-is : book ≡ ruleBook ls) (w : List ℕ) where
-    pub rule-pass : expandOnce (bookOf text book) w ≡ expandOnce (rules (linesBy text ls)) w
-    rule-pass = rw (book-is, book-rules text ls) refl
+  -- test 19
+  module _ (ls : List Line) (l : Line) (once : take n last ≡ expandOnce (rules ls) (l .name ∷ []))
+      {p q : AB} (p-is : p ≡ final (symbolsOf (expandOnce (draws ls) v)) start .at) (q-is : q ≡ final (symbolsOf (expandOnce (draws ls) (expandOnce (rules ls) v))) start .at) where
+    word-is : v ≡ expandOnce (rules ls) (l .name ∷ [])
+    word-is = cut ∙ once
 
-    pub rule-room : {room : ℕ} → 24 * length w ≤ room → length (expandOnce (bookOf text book) w) ≤ room
-    rule-room h = rw rule-pass (omega (arith, rule-pass-most text ls sized w))
+    net-one : p ≡ net ls 1 (l .name)
+    unfolding net strokes passes
+    net-one = p-is ∙ (rw word-is refl)
 
-    pub rule-word : (n : ℕ) (last : List ℕ) {v : List ℕ} → take n last ≡ expandOnce (bookOf text book) w → v ≡ take n (drop 0 last) → v ≡ expandOnce (rules (linesBy text ls)) w
-    rule-word n last filled v-is = v-is ∙ filled ∙ rule-pass
+    net-two : q ≡ net ls 2 (l .name)
+    unfolding net strokes passes
+    net-two = q-is ∙ (rw word-is refl)
 
-    pub rule-long : (n : ℕ) (last : List ℕ) {v : List ℕ} → take n last ≡ expandOnce (bookOf text book) w → v ≡ take n (drop 0 last) → length v ≤ 24 * length w
-    rule-long n last filled v-is = rw (rule-word n last filled v-is) (rule-pass-most text ls sized w)
+    pub net-verdict : {r : Bool} → r ≡ equalAB q (p ⊕ p) → not r ≡ badNet ls l
+    unfolding badNet
+    net-verdict e = ap not e ∙ (rw (net-one, net-two) refl)
 
-module _ (ls : List Line) (l : Line) {once twice : List ℕ} (o : once ≡ expandOnce (rules ls) (l .name ∷ [])) (t : twice ≡ expandOnce (rules ls) once)
-    {p q : AB} (p-is : p ≡ final (symbolsOf (expandOnce (draws ls) once)) start .at) (q-is : q ≡ final (symbolsOf (expandOnce (draws ls) twice)) start .at) where
-  net-one : p ≡ net ls 1 (l .name)
-  unfolding net strokes passes
-  net-one = p-is ∙ (rw o refl)
-
-  net-two : q ≡ net ls 2 (l .name)
-  unfolding net strokes passes
-  net-two = q-is ∙ (rw (t, o) refl)
-
-  pub net-verdict : {r : Bool} → r ≡ equalAB q (p ⊕ p) → not r ≡ badNet ls l
-  unfolding badNet
-  net-verdict e = ap not e ∙ (rw (net-one, net-two) refl)
+pub ruleset netting = (drawn-long, drawn-ends, rules-written, rules-count, cut-most, cut-ruled, cut-ends, net-verdict)

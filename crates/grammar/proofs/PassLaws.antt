@@ -1,5 +1,4 @@
 -- A lawful word is of turns and motif letters. A pass over it is a graft of the words that it has for the motifs, keeps it lawful, and keeps its turns if those words have none.
--- Assumes nothing.
 use mathlib.Core.Path.{_≡_, refl, sym, ap, subst}
 use mathlib.Core.Bool.{Bool, true, false, _&&_, _||_}
 use mathlib.Core.List.{List, [], _∷_, _++_, append-assoc, List·Memᴰ}
@@ -13,7 +12,7 @@ use Rattle.turtle.specs.Walk.{Sym, left, right, symbolOf, symbolsOf}
 use Rattle.turtle.proofs.SymbolLaws.{symbols-append}
 use Rattle.grammar.specs.Words.{isUpper, upper, mirrored, reversed, wordOf, expandOnce}
 use Rattle.grammar.specs.Texts.{Line}
-use Rattle.grammar.specs.Curves.{bookBy, isNamed, letterOf, childOf, childrenOf, turned}
+use Rattle.grammar.specs.Curves.{bookBy, isNamed, letterOf, ruleSymbol, ruleSymbols, turned}
 use Rattle.grammar.specs.Tests.{lawfulRule}
 use Rattle.grammar.proofs.Grammars.{graft}
 use Rattle.grammar.proofs.TurnLaws.{turned-append, turned-home}
@@ -41,17 +40,17 @@ lawful-reversed (minus {w = w} l) = rw (reversed-cons 45 w) (lawful-append (lawf
 lawful-reversed (child {b = b} {w = w} m l) = rw (reversed-cons b w) (lawful-append (lawful-reversed l) (child (motif-mirrored m) done))
 
 -- ---- children
-pub children-append : (ls : List Line) (v w : List ℕ) → childrenOf ls (v ++ w) ≡ childrenOf ls v ++ childrenOf ls w
-unfolding childrenOf
+pub children-append : (ls : List Line) (v w : List ℕ) → ruleSymbols ls (v ++ w) ≡ ruleSymbols ls v ++ ruleSymbols ls w
+unfolding ruleSymbols
 children-append ls [] w = refl
-children-append ls (b ∷ v) w = rw (children-append ls v w) (sym (append-assoc (childOf ls b) _ _))
+children-append ls (b ∷ v) w = rw (children-append ls v w) (sym (append-assoc (ruleSymbol ls b) _ _))
 
-child-mirror : {ls : List Line} {b : ℕ} → Motif ls b → Mirror (λ m n. Unit {0}) (childOf ls b) (childrenOf ls (mirrored b ∷ []))
-unfolding childrenOf
+child-mirror : {ls : List Line} {b : ℕ} → Motif ls b → Mirror (λ m n. Unit {0}) (ruleSymbol ls b) (ruleSymbols ls (mirrored b ∷ []))
+unfolding ruleSymbols
 child-mirror m = rw (motif-child m, motif-child (motif-mirrored m)) (met tt)
 
-pub children-mirror : {ls : List Line} {w : List ℕ} → Lawful ls w → Mirror (λ m n. Unit {0}) (childrenOf ls w) (childrenOf ls (reversed w))
-unfolding childrenOf childOf mirrored
+pub children-mirror : {ls : List Line} {w : List ℕ} → Lawful ls w → Mirror (λ m n. Unit {0}) (ruleSymbols ls w) (ruleSymbols ls (reversed w))
+unfolding ruleSymbols ruleSymbol mirrored
 children-mirror done = unfold reversed in blank
 children-mirror (plus {w = w} l) = rw (reversed-cons 43 w, children-append) (joined leftward (children-mirror l))
 children-mirror (minus {w = w} l) = rw (reversed-cons 45 w, children-append) (joined rightward (children-mirror l))
@@ -64,8 +63,8 @@ pub record Reading {B : Type 0} (read : List ℕ → List (Sym B)) : Type 0 wher
   pub minus : (w : List ℕ) → read (45 ∷ w) ≡ right ∷ read w
   pub append : (v w : List ℕ) → read (v ++ w) ≡ read v ++ read w
 
-pub children-reading : (ls : List Line) → Reading (childrenOf ls)
-unfolding childrenOf childOf
+pub children-reading : (ls : List Line) → Reading (ruleSymbols ls)
+unfolding ruleSymbols ruleSymbol
 children-reading ls = record { nil = refl; plus = λ w. refl; minus = λ w. refl; append = children-append ls }
 
 pub symbols-reading : Reading symbolsOf
@@ -101,15 +100,15 @@ module _ (ls : List Line) (uppercase : (l : Line) → List·Memᴰ l ls → T (i
     pass-lawful words (child {b = b} m l) = lawful-append (words b m) (pass-lawful words l)
 
     module _ {B : Type 0} {read : List ℕ → List (Sym B)} (reading : Reading read) where
-      pub pass-graft : {w : List ℕ} → Lawful ls w → read (expandOnce book w) ≡ graft (λ m. read (wordOf book (letterOf ls m))) (childrenOf ls w)
-      unfolding expandOnce upper childrenOf childOf graft
+      pub pass-graft : {w : List ℕ} → Lawful ls w → read (expandOnce book w) ≡ graft (λ m. read (wordOf book (letterOf ls m))) (ruleSymbols ls w)
+      unfolding expandOnce upper ruleSymbols ruleSymbol graft
       pass-graft done = reading .nil
       pass-graft (plus l) = rw (self 43 refl refl, reading .plus, pass-graft l)
       pass-graft (minus l) = rw (self 45 refl refl, reading .minus, pass-graft l)
       pass-graft (child m l) = rw (motif-child m, reading .append, pass-graft l, token-letter m)
 
-      pub pass-turned : ((b : ℕ) → Motif ls b → turned 0 (read (wordOf book b)) ≡ 0) → {w : List ℕ} → Lawful ls w → (h : ℕ) → h < 6 → turned h (read (expandOnce book w)) ≡ turned h (childrenOf ls w)
-      unfolding expandOnce upper childrenOf childOf turned
+      pub pass-turned : ((b : ℕ) → Motif ls b → turned 0 (read (wordOf book b)) ≡ 0) → {w : List ℕ} → Lawful ls w → (h : ℕ) → h < 6 → turned h (read (expandOnce book w)) ≡ turned h (ruleSymbols ls w)
+      unfolding expandOnce upper ruleSymbols ruleSymbol turned
       pass-turned words done h k = ap (turned h) (reading .nil)
       pass-turned words (plus l) h k = rw (self 43 refl refl, reading .plus) (pass-turned words l ((h + 1) % 6) (omega arith))
       pass-turned words (minus l) h k = rw (self 45 refl refl, reading .minus) (pass-turned words l ((h + 5) % 6) (omega arith))

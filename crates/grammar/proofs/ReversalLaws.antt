@@ -1,5 +1,4 @@
 -- Words met from the other end. To reverse twice is to do nothing; and a pass over the reverse is the reverse of the pass, as long as the book has words for uppercase letters alone.
--- Assumes nothing.
 use mathlib.Core.Path.{_≡_, refl, sym, ap, _∙_, subst}
 use mathlib.Core.Bool.{Bool, true, false}
 use mathlib.Core.List.{List, [], _∷_, _++_, map, reverse-cons, reverse-append, map-append, append-assoc, append-nil}
@@ -9,7 +8,7 @@ use native.Mathlib.Omega.{arith}
 use borrow.Author.Tests.{ne-eqb, eqb-true, le-leb, lt-leb}
 use lib.Dec.{T, leb, eqb, leb→le}
 use Rattle.whole.proofs.Bools.{both-left, both-right, from-true}
-use Rattle.grammar.specs.Words.{isLower, isUpper, upper, mirrored, reversed, bySelf, byBook, wordOf, expandOnce}
+use Rattle.grammar.specs.Words.{isLower, isUpper, upper, mirrored, reversed, reversedOrSelf, byBook, wordOf, expandOnce}
 
 -- ---- a byte is a turn, a letter, or neither
 pub data Byte : ℕ → Type 0 where
@@ -116,7 +115,7 @@ module _ (book : ℕ → Option (List ℕ)) (uppercase : (b : ℕ) → isUpper b
       go (some w) e = refl
       go none e = rw (upper-big u low high, e)
 
-  word-small : (u : ℕ) → 65 ≤ u → u ≤ 90 → wordOf book (u + 32) ≡ bySelf (u + 32) (book u)
+  word-small : (u : ℕ) → 65 ≤ u → u ≤ 90 → wordOf book (u + 32) ≡ reversedOrSelf (u + 32) (book u)
   unfolding wordOf
   word-small u low high =
       let e : isUpper (u + 32) ≡ false = rw (le-leb 65 (u + 32) (omega arith), lt-leb (u + 32) 90 (omega arith)) in
@@ -126,11 +125,11 @@ module _ (book : ℕ → Option (List ℕ)) (uppercase : (b : ℕ) → isUpper b
   unfolding mirrored upper reversed
   word-mirrored b = go (byte b)
     where
-      along : (u : ℕ) → 65 ≤ u → u ≤ 90 → (o : Option (List ℕ)) → bySelf (u + 32) o ≡ reversed (own u o)
+      along : (u : ℕ) → 65 ≤ u → u ≤ 90 → (o : Option (List ℕ)) → reversedOrSelf (u + 32) o ≡ reversed (own u o)
       along u l h (some w) = refl
       along u l h none = ap (λ c. c ∷ []) (sym (mirrored-big u l h))
 
-      back : (u : ℕ) → 65 ≤ u → u ≤ 90 → (o : Option (List ℕ)) → own u o ≡ reversed (bySelf (u + 32) o)
+      back : (u : ℕ) → 65 ≤ u → u ≤ 90 → (o : Option (List ℕ)) → own u o ≡ reversed (reversedOrSelf (u + 32) o)
       back u l h (some w) = sym (reversed-reversed w)
       back u l h none = ap (λ c. c ∷ []) (sym (mirrored-small u l h))
 

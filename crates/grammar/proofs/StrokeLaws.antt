@@ -1,5 +1,4 @@
 -- What holds of every stroke that is drawn: each is short, of whatever text; and each of an accepted text has a flavor, as test 17 lets no other letter into a draw.
--- Assumes nothing.
 use mathlib.Core.Path.{_≡_, refl, sym, subst}
 use mathlib.Core.Bool.{Bool, true, false, _&&_, _||_, cond}
 use mathlib.Core.List.{List, [], _∷_, _++_, List·Memᴰ}
@@ -15,7 +14,7 @@ use Rattle.turtle.specs.declared.letter.Flavor.{Flavor}
 use Rattle.turtle.specs.declared.letter.Letter.{Letter}
 use Rattle.turtle.specs.Letters.{toggled, Row, letters, lookup, strokeOf}
 use Rattle.turtle.specs.Walk.{Sym, left, right, letter, drawn, symbolOf, symbolsOf}
-use Rattle.turtle.specs.Sizes.{SmallStroke}
+use Rattle.turtle.specs.Inside.Sizes.{SmallStroke}
 use Rattle.turtle.proofs.LetterLaws.{stroke-small}
 use Rattle.grammar.specs.Words.{isUpper, upper, mirrored, reversed, wordOf}
 use Rattle.grammar.specs.Texts.{Line, linesOf}
@@ -25,7 +24,7 @@ use Rattle.grammar.proofs.Grammars as Grammars
 use Rattle.grammar.proofs.Grammars.{Grammar, grammarOf, Upright}
 use Rattle.grammar.proofs.GrammarLaws.{drawn-nil, drawn-left, drawn-right, drawn-letter, drawn-zero, drawn-suc}
 use Rattle.grammar.proofs.ReversalLaws.{Byte, plus, minus, big, small, other, byte, upper-big, upper-small, mirrored-big, mirrored-small, mirrored-other, reversed-cons, word-mirrored}
-use Rattle.grammar.proofs.TestLaws.{Good, good-lines}
+use Rattle.grammar.proofs.GoodLineLaws.{Good, good-lines}
 use Rattle.grammar.proofs.TokenLaws.{named, Motif, forward, backward, no-word, token-motif}
 
 -- ---- P holds of every letter of a word

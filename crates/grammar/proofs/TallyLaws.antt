@@ -1,7 +1,6 @@
 -- What the bytes of a word come to, one byte after the other, in the form of what the code has in hand.
--- Assumes nothing.
 use mathlib.Core.Path.{_≡_, refl, sym, ap, _∙_, subst}
-use mathlib.Core.Bool.{Bool, true, false, not, _&&_, _||_, cond, and-assoc}
+use mathlib.Core.Bool.{Bool, true, false, not, _&&_, _||_, cond, and-assoc, and-true, and-false}
 use mathlib.Core.List.{List, [], _∷_, _++_, append-nil}
 use Prim.Native.Nat.{ℕ, zero, suc, _+_, _-_, _%_, _≤_, _<_, min}
 use native.Mathlib.Numerals.{add-one}
@@ -21,13 +20,15 @@ use Rattle.grammar.specs.declared.lines.Lines.{Lines}
 use Rattle.grammar.specs.declared.tally.Tally.{Tally}
 use Rattle.grammar.specs.Words.{isLower, upper, mirrored}
 use Rattle.grammar.specs.Texts.{Line}
-use Rattle.grammar.specs.Curves.{isNamed, childOf, childrenOf, turned, letters, upright}
+use Rattle.grammar.specs.Curves.{isNamed, ruleSymbol, ruleSymbols, turned, letterCount, upright}
 use Rattle.grammar.specs.Tests.{lawfulRule, isTurn, isStroke, lawfulDraw}
-use Rattle.grammar.specs.TextParts.{linesFrom, linesBy, hasName, Tallied, stillUpright, Means, leftward, rightward, lettered, strayed, nothing, noTally, metTally, RuleByte, DrawByte, RuleWord, DrawWord, directed}
+use Rattle.grammar.specs.Inside.Places.{linesFrom, linesBy}
+use Rattle.grammar.specs.Scans.{hasName}
+use Rattle.grammar.specs.Inside.Tallies.{Tallied, stillUpright, Means, leftward, rightward, lettered, strayed, nothing, noTally, tallyWith, RuleByte, DrawByte, RuleWord, DrawWord, directed}
 use Rattle.grammar.proofs.TurnLaws.{turned-append}
 use Rattle.grammar.proofs.GrammarLaws.{letters-append}
 use Rattle.grammar.proofs.PassLaws.{children-append}
-use Rattle.grammar.proofs.WordLaws.{length-reversed, reversed-at}
+use Rattle.grammar.proofs.WordByteLaws.{length-reversed, reversed-at}
 
 -- ---- the lines' letters, one by one
 pub named-by : (text : List ℕ) (ls : Lines) (b k i : ℕ) → isNamed (linesFrom text ls k i) b ≡ hasName (ls .name) b k i
@@ -60,21 +61,21 @@ module _ (names : List ℕ) (b n i : ℕ) where
 -- ---- a byte of a rule
 module _ (ls : List Line) (b : ℕ) where
   pub rule-left : b ≡ 43 → RuleByte ls b Kind.Left
-  unfolding childOf
+  unfolding ruleSymbol
   rule-left e = rw e leftward
 
   module _ (p : b ≡ 43 → ⊥) where
     pub rule-right : b ≡ 45 → RuleByte ls b Kind.Right
-    unfolding childOf
+    unfolding ruleSymbol
     rule-right e = rw e rightward
 
     module _ (m : b ≡ 45 → ⊥) {r : Bool} (r-is : r ≡ isNamed ls (upper b)) where
       pub rule-letter : r ≡ true → RuleByte ls b Kind.Letter
-      unfolding childOf
+      unfolding ruleSymbol
       rule-letter e = rw (ne-eqb b 43 p, ne-eqb b 45 m, sym r-is ∙ e) lettered
 
       pub rule-nothing : r ≡ false → RuleByte ls b Kind.Nothing
-      unfolding childOf
+      unfolding ruleSymbol
       rule-nothing e = rw (ne-eqb b 43 p, ne-eqb b 45 m, sym r-is ∙ e) nothing
 
 -- ---- a byte of a draw
@@ -115,16 +116,8 @@ upright-append h (right ∷ v) w = upright-append ((h + 5) % 6) v w
 upright-append h (letter a ∷ v) w = rw (upright-append h v w) (sym (and-assoc (eqb h 0 || eqb h 3) (upright h v) (upright (turned h v) w)))
 
 pub tallied-none : {A : Type 0} → Tallied {A = A} [] true noTally
-unfolding letters turned upright
+unfolding letterCount turned upright
 tallied-none = record { count = refl; end = refl; straight = refl; sound = refl }
-
-and-true : (b : Bool) → (b && true) ≡ b
-and-true true = refl
-and-true false = refl
-
-and-false : (b : Bool) → (b && false) ≡ false
-and-false true = refl
-and-false false = refl
 
 module _ {A : Type 0} {w : List (Sym A)} {ok : Bool} {t : Tally} (h : Tallied w ok t) where
   abbrev straight-more : (v : List (Sym A)) → Type 0
@@ -136,36 +129,36 @@ module _ {A : Type 0} {w : List (Sym A)} {ok : Bool} {t : Tally} (h : Tallied w 
   turned-by : (v : List (Sym A)) → turned (t .heading) v ≡ turned 0 (w ++ v)
   turned-by v = rw (h .end) (sym (turned-append 0 w v))
 
-  letters-by : (v : List (Sym A)) → t .letters + letters v ≡ letters (w ++ v)
+  letters-by : (v : List (Sym A)) → t .letters + letterCount v ≡ letterCount (w ++ v)
   letters-by v = rw (h .count) (sym (letters-append w v))
 
-  pub tallied-met : {kind : Kind} {v : List (Sym A)} {may : Bool} → Means kind v may → Tallied (w ++ v) (ok && may) (metTally kind t)
-  unfolding letters turned upright
-  tallied-met leftward = record {
+  pub tallied-more : {kind : Kind} {v : List (Sym A)} {may : Bool} → Means kind v may → Tallied (w ++ v) (ok && may) (tallyWith kind t)
+  unfolding letterCount turned upright
+  tallied-more leftward = record {
     count = omega (arith, letters-by (left ∷ []));
     end = turned-by (left ∷ []);
     straight = sym (straight-by (left ∷ []) ∙ and-true (t .upright));
     sound = h .sound ∙ sym (and-true ok);
   }
-  tallied-met rightward = record {
+  tallied-more rightward = record {
     count = omega (arith, letters-by (right ∷ []));
     end = turned-by (right ∷ []);
     straight = sym (straight-by (right ∷ []) ∙ and-true (t .upright));
     sound = h .sound ∙ sym (and-true ok);
   }
-  tallied-met (lettered {a = a}) = record {
+  tallied-more (lettered {a = a}) = record {
     count = omega (arith, letters-by (letter a ∷ []));
     end = turned-by (letter a ∷ []);
     straight = sym (straight-by (letter a ∷ []) ∙ ap (λ b. t .upright && b) (and-true (eqb (t .heading) 0 || eqb (t .heading) 3)));
     sound = h .sound ∙ sym (and-true ok);
   }
-  tallied-met (strayed {a = a}) = record {
+  tallied-more (strayed {a = a}) = record {
     count = omega (arith, letters-by (letter a ∷ []));
     end = turned-by (letter a ∷ []);
     straight = sym (straight-by (letter a ∷ []) ∙ ap (λ b. t .upright && b) (and-true (eqb (t .heading) 0 || eqb (t .heading) 3)));
     sound = sym (and-false ok);
   }
-  tallied-met nothing = record {
+  tallied-more nothing = record {
     count = omega (arith, letters-by []);
     end = turned-by [];
     straight = sym (straight-by [] ∙ and-true (t .upright));
@@ -180,12 +173,12 @@ pub record Modest (t : Tally) (i : ℕ) : Type 0 where
 pub modest-none : {t : Tally} → t ≡ noTally → Modest t 0
 modest-none e = rw e record { few = omega arith; small = omega arith }
 
-pub modest-met : {t s : Tally} {i : ℕ} (k : Kind) → Modest t i → s ≡ metTally k t → Modest s (i + 1)
-modest-met Kind.Left m e = rw e record { few = omega (arith, m .few); small = omega arith }
-modest-met Kind.Right m e = rw e record { few = omega (arith, m .few); small = omega arith }
-modest-met Kind.Letter m e = rw e record { few = omega (arith, m .few); small = m .small }
-modest-met Kind.Stray m e = rw e record { few = omega (arith, m .few); small = m .small }
-modest-met Kind.Nothing m e = rw e record { few = omega (arith, m .few); small = m .small }
+pub modest-more : {t s : Tally} {i : ℕ} (k : Kind) → Modest t i → s ≡ tallyWith k t → Modest s (i + 1)
+modest-more Kind.Left m e = rw e record { few = omega (arith, m .few); small = omega arith }
+modest-more Kind.Right m e = rw e record { few = omega (arith, m .few); small = omega arith }
+modest-more Kind.Letter m e = rw e record { few = omega (arith, m .few); small = m .small }
+modest-more Kind.Stray m e = rw e record { few = omega (arith, m .few); small = m .small }
+modest-more Kind.Nothing m e = rw e record { few = omega (arith, m .few); small = m .small }
 
 -- ---- whole words
 lawful-rule-append : (ls : List Line) (v : List ℕ) (b : ℕ) → lawfulRule ls (v ++ (b ∷ [])) ≡ (lawfulRule ls v && (eqb b 43 || eqb b 45 || isNamed ls (upper b)))
@@ -197,19 +190,19 @@ lawful-draw-append [] b = and-true (isTurn b || isStroke b)
 lawful-draw-append (c ∷ v) b = rw (lawful-draw-append v b) (sym (and-assoc (isTurn c || isStroke c) (lawfulDraw v) (isTurn b || isStroke b)))
 
 module _ (w : List ℕ) {t : Tally} (i : ℕ) where
-  module _ {s : Tally} {k : Kind} (h : i < length w) (s-is : s ≡ metTally k t) where
+  module _ {s : Tally} {k : Kind} (h : i < length w) (s-is : s ≡ tallyWith k t) where
     pub rule-next : (ls : List Line) → RuleWord ls (take i w) t → {b : ℕ} → b ≡ getD w i 0 → RuleByte ls b k → RuleWord ls (take (i + 1) w) s
-    unfolding childrenOf
+    unfolding ruleSymbols
     rule-next ls so-far e byte =
-        rw (s-is, add-one, take-suc w i 0, children-append, append-nil, lawful-rule-append) (tallied-met so-far (subst (λ b. RuleByte ls b k) e byte))
+        rw (s-is, add-one, take-suc w i 0, children-append, append-nil, lawful-rule-append) (tallied-more so-far (subst (λ b. RuleByte ls b k) e byte))
 
     pub draw-next : DrawWord (take i w) t → DrawByte (getD w i 0) k → DrawWord (take (i + 1) w) s
     unfolding symbolsOf
     draw-next so-far byte =
-        rw (s-is, add-one, take-suc w i 0, symbols-append, append-nil, lawful-draw-append) (tallied-met so-far byte)
+        rw (s-is, add-one, take-suc w i 0, symbols-append, append-nil, lawful-draw-append) (tallied-more so-far byte)
 
 pub rule-none : (ls : List Line) (w : List ℕ) {t : Tally} → t ≡ noTally → RuleWord ls (take 0 w) t
-unfolding childrenOf
+unfolding ruleSymbols
 rule-none ls w e = rw e tallied-none
 
 pub draw-none : (w : List ℕ) {t : Tally} → t ≡ noTally → DrawWord (take 0 w) t

@@ -1,5 +1,4 @@
 -- The letters of the listed motifs, in either case, are the tokens: each stands at its token among the tokens' letters, and each token's letter is one of them.
--- Assumes nothing.
 use mathlib.Core.Path.{_≡_, refl, sym, _∙_, subst}
 use mathlib.Core.Bool.{Bool, true, false, _||_, cond}
 use mathlib.Core.List.{List, [], _∷_, map, List·Memᴰ, List·Memᴰ·head, List·Memᴰ·tail, List·Memᴰ·not-nil, List·Memᴰ·cases-cons, List·Memᴰ·append-cases, Memᴰ·append-left, Memᴰ·append-right, Memᴰ·map, Memᴰ·of-map}
@@ -16,7 +15,7 @@ use Rattle.whole.proofs.Lists.{member-at}
 use Rattle.turtle.specs.Walk.{letter}
 use Rattle.grammar.specs.Words.{isUpper, upper, mirrored}
 use Rattle.grammar.specs.Texts.{Line}
-use Rattle.grammar.specs.Curves.{bookBy, isNamed, namedFrom, tokenBytes, letterOf, place, tokenOf, childOf}
+use Rattle.grammar.specs.Curves.{bookBy, isNamed, namedFrom, tokenBytes, letterOf, placeIn, tokenOf, ruleSymbol}
 use Rattle.grammar.proofs.ReversalLaws.{Byte, plus, minus, big, small, other, byte, is-big, upper-big, upper-small, upper-other, mirrored-big, mirrored-mirrored}
 
 -- ---- a listed letter has a line, and the books have its words
@@ -71,11 +70,11 @@ module _ (ls : List Line) where
       go false e m below = below m
 
 -- ---- the place of a letter
-place-of : (cs : List ℕ) (b : ℕ) → List·Memᴰ b cs → (place cs b < length cs) × (getD cs (place cs b) 0 ≡ b)
+place-of : (cs : List ℕ) (b : ℕ) → List·Memᴰ b cs → (placeIn cs b < length cs) × (getD cs (placeIn cs b) 0 ≡ b)
 place-of [] b m = absurd (List·Memᴰ·not-nil m)
 place-of (c ∷ cs) b m = go (eqb c b) refl (List·Memᴰ·cases-cons m) (place-of cs b)
   where
-    go : (s : Bool) → eqb c b ≡ s → (b ≡ c) ⊎ List·Memᴰ b cs → (List·Memᴰ b cs → (place cs b < length cs) × (getD cs (place cs b) 0 ≡ b)) → (cond s 0 (suc (place cs b)) < suc (length cs)) × (getD (c ∷ cs) (cond s 0 (suc (place cs b))) 0 ≡ b)
+    go : (s : Bool) → eqb c b ≡ s → (b ≡ c) ⊎ List·Memᴰ b cs → (List·Memᴰ b cs → (placeIn cs b < length cs) × (getD cs (placeIn cs b) 0 ≡ b)) → (cond s 0 (suc (placeIn cs b)) < suc (length cs)) × (getD (c ∷ cs) (cond s 0 (suc (placeIn cs b))) 0 ≡ b)
     go true e m below = (omega arith, eqb-true c b e)
     go false e (inl k) below = absurd (eqb-false c b e (sym k))
     go false e (inr m) below = let h = below m in (omega arith, h .1)
@@ -102,8 +101,8 @@ pub token-letter : {ls : List Line} {b : ℕ} → Motif ls b → letterOf ls (to
 unfolding letterOf tokenOf
 token-letter {ls} {b} m = place-of (tokenBytes ls) b (motif-member m) .1
 
-pub motif-child : {ls : List Line} {b : ℕ} → Motif ls b → childOf ls b ≡ letter (tokenOf ls b) ∷ []
-unfolding childOf
+pub motif-child : {ls : List Line} {b : ℕ} → Motif ls b → ruleSymbol ls b ≡ letter (tokenOf ls b) ∷ []
+unfolding ruleSymbol
 motif-child {ls} (forward u t low high) = rw (ne-eqb u 43 (omega arith), ne-eqb u 45 (omega arith), upper-big u low high, ← (is-true (isNamed ls u) t))
 motif-child {ls} (backward u t low high) =
     rw (mirrored-big u low high, ne-eqb (u + 32) 43 (omega arith), ne-eqb (u + 32) 45 (omega arith), upper-small u low high, ← (is-true (isNamed ls u) t))

@@ -1,5 +1,4 @@
 -- Where the turns of a word of symbols lead, part by part. A word that leads from heading 0 to 0 leads from every heading to itself.
--- Assumes nothing.
 use mathlib.Core.Path.{_≡_, refl}
 use mathlib.Core.List.{List, [], _∷_, _++_}
 use Prim.Native.Nat.{ℕ, _+_, _%_, _<_}

@@ -1,5 +1,4 @@
 -- Each test of a line, 13 to 18, in the form of what the code has in hand: the motif's letter by its range, a word by its tally.
--- Assumes nothing.
 use mathlib.Core.Path.{_≡_, refl, sym, ap, _∙_}
 use mathlib.Core.Bool.{Bool, true, false, not, _||_}
 use mathlib.Core.List.{List}
@@ -12,9 +11,11 @@ use Rattle.grammar.specs.declared.lines.Lines.{Lines}
 use Rattle.grammar.specs.declared.tally.Tally.{Tally}
 use Rattle.grammar.specs.Words.{isUpper, reversed}
 use Rattle.grammar.specs.Texts.{Line}
-use Rattle.grammar.specs.Curves.{isNamed, childrenOf, turned, letters, upright}
+use Rattle.grammar.specs.Curves.{isNamed, ruleSymbols, turned, letterCount, upright}
 use Rattle.grammar.specs.Tests.{badMotif, lawfulRule, badRule, badCount, badHeading, lawfulDraw, badDraw, badTurns}
-use Rattle.grammar.specs.TextParts.{linesFrom, hasName, RuleWord, DrawWord}
+use Rattle.grammar.specs.Inside.Places.{linesFrom}
+use Rattle.grammar.specs.Scans.{hasName}
+use Rattle.grammar.specs.Inside.Tallies.{RuleWord, DrawWord}
 use Rattle.grammar.proofs.TallyLaws.{named-by}
 
 -- ---- 13
@@ -59,10 +60,10 @@ module _ (ls : List Line) (l : Line) {w : List ℕ} {t : Tally} (e : w ≡ l .ru
 
   pub count-verdict : not (eqb (t .letters) 4) ≡ badCount ls l
   unfolding badCount
-  count-verdict = ap (λ n. not (eqb n 4)) (r .count ∙ ap (λ v. letters (childrenOf ls v)) e)
+  count-verdict = ap (λ n. not (eqb n 4)) (r .count ∙ ap (λ v. letterCount (ruleSymbols ls v)) e)
 
-  straight : t .upright ≡ upright 0 (childrenOf ls (l .rule))
-  straight = r .straight ∙ ap (λ v. upright 0 (childrenOf ls v)) e
+  straight : t .upright ≡ upright 0 (ruleSymbols ls (l .rule))
+  straight = r .straight ∙ ap (λ v. upright 0 (ruleSymbols ls v)) e
 
   pub heading-along : not (t .upright) ≡ true → true ≡ badHeading ls l
   unfolding badHeading
@@ -71,11 +72,11 @@ module _ (ls : List Line) (l : Line) {w : List ℕ} {t : Tally} (e : w ≡ l .ru
   pub heading-back : not (t .upright) ≡ false → {s : Tally} → RuleWord ls (reversed w) s → not (s .upright) ≡ badHeading ls l
   unfolding badHeading
   heading-back u {s} b =
-      let back : s .upright ≡ upright 0 (childrenOf ls (reversed (l .rule))) = b .straight ∙ ap (λ v. upright 0 (childrenOf ls (reversed v))) e in
+      let back : s .upright ≡ upright 0 (ruleSymbols ls (reversed (l .rule))) = b .straight ∙ ap (λ v. upright 0 (ruleSymbols ls (reversed v))) e in
       sym (rw (sym straight ∙ not-false (t .upright) u) (ap not (sym back)))
 
-  end : turned 0 (childrenOf ls (l .rule)) ≡ t .heading
-  end = sym (r .end ∙ ap (λ v. turned 0 (childrenOf ls v)) e)
+  end : turned 0 (ruleSymbols ls (l .rule)) ≡ t .heading
+  end = sym (r .end ∙ ap (λ v. turned 0 (ruleSymbols ls v)) e)
 
   pub turns-rule : (t .heading ≡ 0 → ⊥) → true ≡ badTurns ls l
   unfolding badTurns
@@ -99,5 +100,5 @@ module _ (l : Line) {w : List ℕ} {t : Tally} (e : w ≡ l .draw) (r : DrawWord
   pub draw-count : not (t .lawful) ≡ false → not (eqb (t .letters) 1) ≡ badDraw l
   unfolding badDraw
   draw-count u =
-      let many : letters (symbolsOf (l .draw)) ≡ t .letters = sym (r .count ∙ ap (λ v. letters (symbolsOf v)) e) in
+      let many : letterCount (symbolsOf (l .draw)) ≡ t .letters = sym (r .count ∙ ap (λ v. letterCount (symbolsOf v)) e) in
       sym (rw (sound ∙ not-false (t .lawful) u, many) refl)

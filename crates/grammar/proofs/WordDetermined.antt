@@ -1,5 +1,4 @@
 -- Two results and two buffers that a contract of `word` allows are the same: an answer is known by what it says.
--- Assumes nothing.
 use mathlib.Core.Path.{_≡_, refl, sym, ap, _∙_}
 use mathlib.Core.List.{List}
 use Prim.Native.Nat.{ℕ}

@@ -2,14 +2,14 @@
 use mathlib.Core.Bool.{Bool, true, false, _&&_, _||_, cond}
 use mathlib.Core.List.{List, [], _∷_, _++_, map}
 use mathlib.Core.Option.{Option, none, some}
-use Prim.Native.Nat.{ℕ, zero, suc, _+_, _-_, _%_, _<_}
-use lib.Dec.{eqb, ltb}
-use lib.ListN.{length, getD}
+use Prim.Native.Nat.{ℕ, zero, suc, _+_, _%_}
+use lib.Dec.{eqb}
+use lib.ListN.{getD}
 use Rattle.turtle.specs.declared.AB.{AB}
-use Rattle.turtle.specs.declared.walk.Cell.{Cell}
+use Rattle.turtle.specs.declared.walk.DrawnCell.{DrawnCell}
 use Rattle.turtle.specs.declared.letter.Stroke.{Stroke}
 use Rattle.turtle.specs.Walk.{Sym, left, right, letter, symbolsOf, start, cells, final}
-use Rattle.grammar.specs.Words.{upper, reversed, expandOnce}
+use Rattle.grammar.specs.Words.{upper, expandOnce}
 use Rattle.grammar.specs.Texts.{Line}
 
 -- the word that the lines have for a motif letter: a rule, or a draw
@@ -32,7 +32,7 @@ unfoldable pub strokes : List Line → ℕ → ℕ → List (Sym Stroke)
 strokes ls r b = symbolsOf (expandOnce (draws ls) (passes ls r (b ∷ [])))
 
 -- THE DRAWING of a motif letter with r passes: the cells along the walk, from the origin at heading 0
-unfoldable pub drawing : List Line → ℕ → ℕ → List Cell
+unfoldable pub drawing : List Line → ℕ → ℕ → List DrawnCell
 drawing ls r b = cells (strokes ls r b) start
 
 -- where that walk ends
@@ -56,23 +56,23 @@ tokenBytes ls = let names = namedFrom ls 26 65 in names ++ map (λ b. b + 32) na
 unfoldable pub letterOf : List Line → ℕ → ℕ
 letterOf ls m = getD (tokenBytes ls) m 0
 
-abbrev pub place : List ℕ → ℕ → ℕ
-place [] b = 0
-place (c ∷ cs) b = cond (eqb c b) 0 (suc (place cs b))
+abbrev pub placeIn : List ℕ → ℕ → ℕ
+placeIn [] b = 0
+placeIn (c ∷ cs) b = cond (eqb c b) 0 (suc (placeIn cs b))
 
 unfoldable pub tokenOf : List Line → ℕ → ℕ
-tokenOf ls b = place (tokenBytes ls) b
+tokenOf ls b = placeIn (tokenBytes ls) b
 
 -- ---- a rule's turns and children; a byte that is neither is passed over
-unfoldable pub childOf : List Line → ℕ → List (Sym ℕ)
-childOf ls b =
+unfoldable pub ruleSymbol : List Line → ℕ → List (Sym ℕ)
+ruleSymbol ls b =
     cond (eqb b 43) (left ∷ [])
     (cond (eqb b 45) (right ∷ [])
     (cond (isNamed ls (upper b)) (letter (tokenOf ls b) ∷ []) []))
 
-unfoldable pub childrenOf : List Line → List ℕ → List (Sym ℕ)
-childrenOf ls [] = []
-childrenOf ls (b ∷ w) = childOf ls b ++ childrenOf ls w
+unfoldable pub ruleSymbols : List Line → List ℕ → List (Sym ℕ)
+ruleSymbols ls [] = []
+ruleSymbols ls (b ∷ w) = ruleSymbol ls b ++ ruleSymbols ls w
 
 -- the heading after a word's turns, and how many letters the word has
 unfoldable pub turned : {A : Type 0} → ℕ → List (Sym A) → ℕ
@@ -81,11 +81,11 @@ turned h (left ∷ w) = turned ((h + 1) % 6) w
 turned h (right ∷ w) = turned ((h + 5) % 6) w
 turned h (letter a ∷ w) = turned h w
 
-unfoldable pub letters : {A : Type 0} → List (Sym A) → ℕ
-letters [] = 0
-letters (left ∷ w) = letters w
-letters (right ∷ w) = letters w
-letters (letter a ∷ w) = suc (letters w)
+unfoldable pub letterCount : {A : Type 0} → List (Sym A) → ℕ
+letterCount [] = 0
+letterCount (left ∷ w) = letterCount w
+letterCount (right ∷ w) = letterCount w
+letterCount (letter a ∷ w) = suc (letterCount w)
 
 -- every letter is met at heading 0 or 3
 unfoldable pub upright : {A : Type 0} → ℕ → List (Sym A) → Bool

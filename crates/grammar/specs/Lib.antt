@@ -4,6 +4,6 @@ pub mod Curves
 pub mod Tests
 pub mod WordAnswers
 pub mod Books
-pub mod Ways
 pub mod TextAnswers
-pub mod TextParts
+pub mod Scans
+pub mod Inside

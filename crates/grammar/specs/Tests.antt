@@ -1,5 +1,5 @@
 -- The tests of a grammar text by number, 12 to 19, each over all lines before the next. (20 is the tables'.)
-use mathlib.Core.Bool.{Bool, true, false, not, _&&_, _||_, cond}
+use mathlib.Core.Bool.{Bool, true, not, _&&_, _||_, cond}
 use mathlib.Core.List.{List, [], _∷_, _++_}
 use Prim.Native.Nat.{ℕ, zero, suc}
 use lib.Dec.{leb, eqb}
@@ -8,7 +8,7 @@ use Rattle.turtle.specs.Plane.{_⊕_, equalAB}
 use Rattle.turtle.specs.Walk.{symbolsOf}
 use Rattle.grammar.specs.Words.{isUpper, upper, reversed}
 use Rattle.grammar.specs.Texts.{Row, shaped, Line, rowsOf, linesOf}
-use Rattle.grammar.specs.Curves.{isNamed, childrenOf, turned, letters, upright, net}
+use Rattle.grammar.specs.Curves.{isNamed, ruleSymbols, turned, letterCount, upright, net}
 
 -- what the tests say: nothing against the text, or a number and the line at fault
 pub data Verdict : Type 0 where
@@ -48,11 +48,11 @@ badRule ls l = not (lawfulRule ls (l .rule))
 
 -- 15: not four children
 unfoldable pub badCount : List Line → Line → Bool
-badCount ls l = not (eqb (letters (childrenOf ls (l .rule))) 4)
+badCount ls l = not (eqb (letterCount (ruleSymbols ls (l .rule))) 4)
 
 -- 16: a child at a heading other than 0 or 3, in the rule or its reverse
 unfoldable pub badHeading : List Line → Line → Bool
-badHeading ls l = not (upright 0 (childrenOf ls (l .rule)) && upright 0 (childrenOf ls (reversed (l .rule))))
+badHeading ls l = not (upright 0 (ruleSymbols ls (l .rule)) && upright 0 (ruleSymbols ls (reversed (l .rule))))
 
 -- 17: not turns and exactly one of E e S s D d T t
 abbrev pub isTurn : ℕ → Bool
@@ -66,11 +66,11 @@ lawfulDraw [] = true
 lawfulDraw (b ∷ w) = (isTurn b || isStroke b) && lawfulDraw w
 
 unfoldable pub badDraw : Line → Bool
-badDraw l = not (lawfulDraw (l .draw) && eqb (letters (symbolsOf (l .draw))) 1)
+badDraw l = not (lawfulDraw (l .draw) && eqb (letterCount (symbolsOf (l .draw))) 1)
 
 -- 18: the rule or the draw does not end at heading 0
 unfoldable pub badTurns : List Line → Line → Bool
-badTurns ls l = not (eqb (turned 0 (childrenOf ls (l .rule))) 0 && eqb (turned 0 (symbolsOf (l .draw))) 0)
+badTurns ls l = not (eqb (turned 0 (ruleSymbols ls (l .rule))) 0 && eqb (turned 0 (symbolsOf (l .draw))) 0)
 
 -- 19: the net after two passes is not twice the net after one
 unfoldable pub badNet : List Line → Line → Bool

@@ -1,6 +1,6 @@
 -- What the answer of the test of a grammar text says.
 use Rattle.triple.specs.Refusals.{numberOf}
-use Rattle.grammar.specs.declared.text.TextAnswer.{TextAnswer}
+use Rattle.grammar.specs.declared.tests.TextAnswer.{TextAnswer}
 use Rattle.grammar.specs.Tests.{Verdict, fine, fault}
 
 abbrev pub saidText : TextAnswer → Verdict

@@ -4,6 +4,7 @@ use mathlib.Core.List.{List, [], _∷_, map}
 use Prim.Native.Nat.{ℕ}
 use lib.Dec.{leb, eqb}
 use lib.ListN.{length, getD}
+use Rattle.text.specs.Words.{wordsOf as fieldsOf}
 
 -- ---- the text cut into rows, each with whether its LF is there
 pub record Row : Type 0 where
@@ -18,16 +19,7 @@ unfoldable pub rowsOf : List ℕ → List Row
 rowsOf [] = []
 rowsOf (b ∷ text) = cond (eqb b 10) (record { bytes = []; ended = true } ∷ rowsOf text) (prefixed b (rowsOf text))
 
--- ---- a row cut at its spaces
-abbrev pub grown : ℕ → List (List ℕ) → List (List ℕ)
-grown b [] = []
-grown b (f ∷ fs) = (b ∷ f) ∷ fs
-
-unfoldable pub fieldsOf : List ℕ → List (List ℕ)
-fieldsOf [] = [] ∷ []
-fieldsOf (b ∷ w) = cond (eqb b 32) ([] ∷ fieldsOf w) (grown b (fieldsOf w))
-
--- three fields and LF: one byte, 1 to 24 bytes, 1 to 12 bytes
+-- ---- a row's fields, its words: three and LF, of one byte, 1 to 24 bytes, 1 to 12 bytes
 abbrev pub sized : ℕ → List ℕ → Bool
 sized most field = leb 1 (length field) && leb (length field) most
 

@@ -12,6 +12,11 @@ abbrev pub saidWord : WordAnswer → Told ℕ
 saidWord (WordAnswer.Written n) = told n
 saidWord (WordAnswer.Refused e) = refused (numberOf e)
 
+-- how many bytes that is; none of a refused call
+abbrev pub written : Told ℕ → ℕ
+written (told n) = n
+written (refused e) = 0
+
 -- how many bytes the word has; refused where the buffer is shorter
 unfoldable pub writtenTo : List ℕ → List ℕ → Told ℕ
 writtenTo word buffer = refuse (ltb (length buffer) (length word)) Room (told (length word))

@@ -24,13 +24,13 @@ unfoldable pub reversed : List ℕ → List ℕ
 reversed w = reverse (map mirrored w)
 
 -- a byte's word, as a book has it; of a lowercase letter, its uppercase letter's word reversed; else the byte itself
-abbrev pub bySelf : ℕ → Option (List ℕ) → List ℕ
-bySelf b (some w) = reversed w
-bySelf b none = b ∷ []
+abbrev pub reversedOrSelf : ℕ → Option (List ℕ) → List ℕ
+reversedOrSelf b (some w) = reversed w
+reversedOrSelf b none = b ∷ []
 
 abbrev pub byBook : (ℕ → Option (List ℕ)) → ℕ → Option (List ℕ) → List ℕ
 byBook book b (some w) = w
-byBook book b none = bySelf b (book (upper b))
+byBook book b none = reversedOrSelf b (book (upper b))
 
 unfoldable pub wordOf : (ℕ → Option (List ℕ)) → ℕ → List ℕ
 wordOf book b = byBook book b (book b)

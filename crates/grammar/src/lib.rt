@@ -4,6 +4,7 @@
 
 pub mod lines;
 mod nets;
+pub mod scan;
 mod tally;
-pub mod text;
+pub mod tests;
 pub mod word;

@@ -1,12 +1,10 @@
-// A text cut into lines, of which the places of their parts are kept: what each test of a line, and
-// the compiler, find a motif's letter, its rule and its draw by.
+// The lines of a text by the places of their parts: what each test of a line, and the compiler, find
+// a motif's letter, its rule and its draw by.
 ghost use mathlib.Core.Path.{_≡_};
-ghost use mathlib.Core.Bool.{_&&_};
 ghost use Prim.Native.Nat.{_<_, _≤_, min};
-ghost use lib.Dec.{leb};
-ghost use lib.ListN.{length, drop};
 ghost use Rattle.grammar.specs.Words.{upper};
-ghost use Rattle.grammar.specs.TextParts.{until, lineAt, noLines, added, Scanned, WholeRow, FirstRow, hasName, ruleBook, drawBook};
+ghost use Rattle.grammar.specs.Scans.{hasName, ruleBook, drawBook};
+ghost use Rattle.grammar.specs.Inside.Places.{lineAt};
 use crate::word::Book;
 use crate::word::least;
 use crate::word::upper;
@@ -21,158 +19,6 @@ pub struct Lines {
     pub draw: [usize; 8],
     pub draw_len: [usize; 8],
     pub count: usize,
-}
-
-// The lines of a text, if none is at fault by 12; else the number of the first that is.
-pub struct Scan {
-    pub lines: Lines,
-    pub fault: usize,
-}
-
-// The first row of a text: a line, by the lengths of its rule and of the whole of it.
-enum Shape {
-    Line(usize, usize),
-    Other,
-}
-
-// How many bytes stand before the first `b`.
-fn until(s: &[u8], b: u8) -> usize
-    ensures { λ n. ⌜ n ≡ until b (now (s .entry)) ⌝ }
-{
-    let mut i = 0;
-    while i < s.len() {
-        if s[i] == b {
-            return i;
-        }
-        i += 1;
-    }
-    i
-}
-
-fn rest_of(s: &[u8], from: usize) -> &[u8]
-    requires { ⌜ from ≤ length (now s) ⌝ }
-    ensures { λ r. ⌜ now r ≡ drop from (now (s .entry)) ⌝ }
-{
-    &s[from..]
-}
-
-// From 1 to `most`.
-fn fits(n: usize, most: usize) -> bool
-    ensures { λ r. ⌜ r ≡ (leb 1 n && leb n most) ⌝ }
-{
-    if n < 1 {
-        return false;
-    }
-    n <= most
-}
-
-fn whole_row(row: &[u8]) -> Shape
-    ensures { λ r. ⌜ WholeRow (now (row .entry)) r ⌝ }
-{
-    let name = until(row, b' ');
-    if row.len() <= name {
-        return Shape::Other;
-    }
-    let rest = rest_of(row, name + 1);
-    let rule = until(rest, b' ');
-    if rest.len() <= rule {
-        return Shape::Other;
-    }
-    let last = rest_of(rest, rule + 1);
-    let draw = until(last, b' ');
-    if draw < last.len() {
-        return Shape::Other;
-    }
-    if !fits(name, 1) {
-        return Shape::Other;
-    }
-    if !fits(rule, 24) {
-        return Shape::Other;
-    }
-    if !fits(draw, 12) {
-        return Shape::Other;
-    }
-    Shape::Line(rule, row.len())
-}
-
-fn first_row(t: &[u8]) -> Shape
-    requires { ⌜ 0 < length (now t) ⌝ }
-    ensures { λ r. ⌜ FirstRow (now (t .entry)) r ⌝ }
-{
-    let n = until(t, b'\n');
-    if t.len() <= n {
-        return Shape::Other;
-    }
-    whole_row(word_at(t, 0, n))
-}
-
-fn no_lines() -> Lines
-    ensures { λ r. ⌜ r ≡ noLines ⌝ }
-{
-    Lines {
-        name: [0u8; 8],
-        rule: [0usize; 8],
-        rule_len: [0usize; 8],
-        draw: [0usize; 8],
-        draw_len: [0usize; 8],
-        count: 0,
-    }
-}
-
-// One line more: its motif's letter, and the places and lengths of its rule and its draw.
-fn added(lines: Lines, name: u8, rule: usize, long: usize, draw: usize, wide: usize) -> Lines
-    requires { ⌜ lines .count < 8 ⌝ }
-    ensures { λ r. ⌜ r ≡ added lines name rule long draw wide ⌝ }
-{
-    let i = lines.count;
-    let mut names = lines.name;
-    let mut rules = lines.rule;
-    let mut rule_lens = lines.rule_len;
-    let mut draws = lines.draw;
-    let mut draw_lens = lines.draw_len;
-    names[i] = name;
-    rules[i] = rule;
-    rule_lens[i] = long;
-    draws[i] = draw;
-    draw_lens[i] = wide;
-    Lines {
-        name: names,
-        rule: rules,
-        rule_len: rule_lens,
-        draw: draws,
-        draw_len: draw_lens,
-        count: i + 1,
-    }
-}
-
-// The text cut into lines, at most eight. Nothing of them is tested but their shape.
-pub fn scan_text(text: &[u8]) -> Scan
-    ensures { λ s. ⌜ Scanned (now (text .entry)) s ⌝ }
-{
-    let mut lines = no_lines();
-    let mut at = 0;
-    while at < text.len() {
-        if lines.count == 8 {
-            return Scan { lines, fault: 9 };
-        }
-        let row = first_row(rest_of(text, at));
-        let Shape::Line(long, n) = row else {
-            return Scan {
-                lines,
-                fault: lines.count + 1,
-            };
-        };
-        lines = added(
-            lines,
-            text[at],
-            at + 2,
-            long,
-            at + (long + 3),
-            n - (long + 3),
-        );
-        at += n + 1;
-    }
-    Scan { lines, fault: 0 }
 }
 
 // Whether one of the first `n` lines has the letter `b`.

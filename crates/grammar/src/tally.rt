@@ -4,7 +4,8 @@ ghost use mathlib.Core.Path.{_≡_};
 ghost use mathlib.Core.List.{List};
 ghost use Prim.Native.Nat.{ℕ, _<_};
 ghost use lib.ListN.{length, getD};
-ghost use Rattle.grammar.specs.TextParts.{linesBy, noTally, stillUpright, metTally, RuleByte, DrawByte, RuleWord, DrawWord, directed};
+ghost use Rattle.grammar.specs.Inside.Places.{linesBy};
+ghost use Rattle.grammar.specs.Inside.Tallies.{noTally, stillUpright, tallyWith, RuleByte, DrawByte, RuleWord, DrawWord, directed};
 use crate::lines::Lines;
 use crate::lines::is_listed;
 use crate::word::mirrored;
@@ -90,9 +91,9 @@ fn no_tally() -> Tally
 }
 
 // One byte more.
-fn met(t: Tally, kind: Kind) -> Tally
+fn with_byte(t: Tally, kind: Kind) -> Tally
     requires { ⌜ (t .letters < 18446744073709551615) × (t .heading < 6) ⌝ }
-    ensures { λ r. ⌜ r ≡ metTally kind t ⌝ }
+    ensures { λ r. ⌜ r ≡ tallyWith kind t ⌝ }
 {
     let upright = still_upright(t);
     match kind {
@@ -146,7 +147,7 @@ pub(crate) fn rule_word(lines: Lines, w: &[u8], back: bool) -> Tally
     let mut t = no_tally();
     let mut i = 0;
     while i < w.len() {
-        t = met(t, rule_byte(lines, byte_of(w, back, i)));
+        t = with_byte(t, rule_byte(lines, byte_of(w, back, i)));
         i += 1;
     }
     t
@@ -158,7 +159,7 @@ pub(crate) fn draw_word(w: &[u8]) -> Tally
     let mut t = no_tally();
     let mut i = 0;
     while i < w.len() {
-        t = met(t, draw_byte(w[i]));
+        t = with_byte(t, draw_byte(w[i]));
         i += 1;
     }
     t

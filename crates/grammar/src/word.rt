@@ -6,15 +6,27 @@ ghost use Prim.Native.Nat.{_≤_, min};
 ghost use lib.Dec.{leb};
 ghost use lib.ListN.{length, take, drop};
 ghost use Rattle.grammar.specs.Words.{upper, mirrored, reversed, wordOf, expandOnce};
-ghost use Rattle.grammar.specs.WordAnswers.{saidWord, writtenTo, afterWord};
+ghost use Rattle.grammar.specs.WordAnswers.{saidWord, written, writtenTo, afterWord};
 ghost use Rattle.grammar.specs.Books.{bookOf};
-ghost use Rattle.grammar.specs.Ways.{partWord, Inside, foundWord, FoundInside, wayWord, WayInside};
+ghost use Rattle.grammar.specs.Inside.Replacements.{partWord, PartWithin, foundWord, FoundWithin, replacementWord, ReplacementWithin};
 use triple::refusal::Refusal;
 
 // How many bytes were written at the buffer's front. A refused call leaves the buffer as it was.
 pub enum WordAnswer {
     Written(usize),
     Refused(Refusal),
+}
+
+impl WordAnswer {
+    // How many bytes were written; none by a refused call.
+    pub fn count(self) -> usize
+        ensures { λ n. ⌜ n ≡ written (saidWord self) ⌝ }
+    {
+        match self {
+            WordAnswer::Written(n) => n,
+            WordAnswer::Refused(_) => 0,
+        }
+    }
 }
 
 // Where each motif's word stands in a slice of bytes: row by row, for the first `count` rows, the
@@ -33,14 +45,14 @@ struct Part {
     hi: usize,
 }
 
-enum Found {
+enum FoundWord {
     At(Part),
     Nothing,
 }
 
 // What stands in a byte's place after a pass: a word of the book as it is, one reversed, or the
 // byte itself.
-enum Way {
+enum Replacement {
     Along(Part),
     Back(Part),
     Itself,
@@ -109,15 +121,15 @@ pub(crate) fn least(a: usize, b: usize) -> usize
 
 // `len` bytes from `from` on, or as many as there are.
 fn cut(words: &[u8], from: usize, len: usize) -> Part
-    ensures { λ p. ⌜ (partWord (now (words .entry)) p ≡ take len (drop from (now (words .entry)))) × Inside (length (now (words .entry))) p ⌝ }
+    ensures { λ p. ⌜ (partWord (now (words .entry)) p ≡ take len (drop from (now (words .entry)))) × PartWithin (length (now (words .entry))) p ⌝ }
 {
     let lo = least(from, words.len());
     let hi = lo + least(len, words.len() - lo);
     Part { lo, hi }
 }
 
-fn find(words: &[u8], book: Book, b: u8) -> Found
-    ensures { λ r. ⌜ (foundWord (now (words .entry)) r ≡ bookOf (now (words .entry)) book b) × FoundInside (length (now (words .entry))) r ⌝ }
+fn find_word(words: &[u8], book: Book, b: u8) -> FoundWord
+    ensures { λ r. ⌜ (foundWord (now (words .entry)) r ≡ bookOf (now (words .entry)) book b) × FoundWithin (length (now (words .entry))) r ⌝ }
 {
     let letters = book.letters;
     let from = book.from;
@@ -126,27 +138,27 @@ fn find(words: &[u8], book: Book, b: u8) -> Found
     let mut i = 0;
     while i < rows {
         if letters[i] == b {
-            return Found::At(cut(words, from[i], len[i]));
+            return FoundWord::At(cut(words, from[i], len[i]));
         }
         i += 1;
     }
-    Found::Nothing
+    FoundWord::Nothing
 }
 
-fn way_of(words: &[u8], book: Book, b: u8) -> Way
-    ensures { λ r. ⌜ (wayWord (now (words .entry)) b r ≡ wordOf (bookOf (now (words .entry)) book) b) × WayInside (length (now (words .entry))) r ⌝ }
+fn replacement_of(words: &[u8], book: Book, b: u8) -> Replacement
+    ensures { λ r. ⌜ (replacementWord (now (words .entry)) b r ≡ wordOf (bookOf (now (words .entry)) book) b) × ReplacementWithin (length (now (words .entry))) r ⌝ }
 {
-    if let Found::At(p) = find(words, book, b) {
-        return Way::Along(p);
+    if let FoundWord::At(p) = find_word(words, book, b) {
+        return Replacement::Along(p);
     }
-    if let Found::At(p) = find(words, book, upper(b)) {
-        return Way::Back(p);
+    if let FoundWord::At(p) = find_word(words, book, upper(b)) {
+        return Replacement::Back(p);
     }
-    Way::Itself
+    Replacement::Itself
 }
 
 fn part_of(words: &[u8], p: Part) -> &[u8]
-    requires { ⌜ Inside (length (now words)) p ⌝ }
+    requires { ⌜ PartWithin (length (now words)) p ⌝ }
     ensures { λ w. ⌜ now w ≡ partWord (now (words .entry)) p ⌝ }
 {
     let lo = p.lo;
@@ -164,10 +176,10 @@ pub(crate) fn word_at(words: &[u8], from: usize, len: usize) -> &[u8]
 fn word_len(words: &[u8], book: Book, b: u8) -> usize
     ensures { λ n. ⌜ n ≡ length (wordOf (bookOf (now (words .entry)) book) b) ⌝ }
 {
-    match way_of(words, book, b) {
-        Way::Along(p) => part_of(words, p).len(),
-        Way::Back(p) => part_of(words, p).len(),
-        Way::Itself => 1,
+    match replacement_of(words, book, b) {
+        Replacement::Along(p) => part_of(words, p).len(),
+        Replacement::Back(p) => part_of(words, p).len(),
+        Replacement::Itself => 1,
     }
 }
 
@@ -175,18 +187,18 @@ fn write_word(words: &[u8], book: Book, b: u8, out: &mut [u8]) -> usize
     requires { ⌜ length (wordOf (bookOf (now words) book) b) ≤ length (now out) ⌝ }
     ensures { λ n. ⌜ (n ≡ length (wordOf (bookOf (now (words .entry)) book) b)) × (now (out .exit) ≡ wordOf (bookOf (now (words .entry)) book) b ++ drop (length (wordOf (bookOf (now (words .entry)) book) b)) (now (out .entry))) ⌝ }
 {
-    match way_of(words, book, b) {
-        Way::Along(p) => {
+    match replacement_of(words, book, b) {
+        Replacement::Along(p) => {
             let w = part_of(words, p);
             write_along(w, out);
             w.len()
         }
-        Way::Back(p) => {
+        Replacement::Back(p) => {
             let w = part_of(words, p);
             write_back(w, out);
             w.len()
         }
-        Way::Itself => {
+        Replacement::Itself => {
             out[0] = b;
             1
         }

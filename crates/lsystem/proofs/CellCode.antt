@@ -1,43 +1,25 @@
--- What the code computes on the way: powers by shifts, and an orientation's axiom.
--- Assumes nothing.
-use mathlib.Core.Path.{_≡_, refl, _∙_, subst}
-use Prim.Native.Nat.{ℕ, _*_, _%_, _^_, _<_, _≤_}
+-- An orientation's axiom as the code has it: the state that its walk starts in is twice its motif.
+use mathlib.Core.Path.{_≡_, refl, sym, ap, _∙_, subst}
+use Prim.Native.Nat.{ℕ, _*_, _<_, _≤_}
 use native.Mathlib.Omega.{arith}
-use native.Mathlib.Nat as N
-use lib.IntN.{pos}
-use lib.Pow.{pow-lt}
-use mir.Syntax.{w64}
-use mir.Val.{SFits, toZ}
-use mir.ValLaws.{toZ-pos}
-use Rattle.whole.proofs.View.{v-upto, fits}
-use Rattle.whole.proofs.Powers.{four-by-shift}
-use Rattle.triple.proofs.TripleLaws.{rows-shifted}
+use Rattle.triple.specs.declared.orientation.Recipe.{Recipe}
+use Rattle.triple.specs.Orientations.{axiomMotif, recipeOf}
+use Rattle.triple.proofs.OrientationLaws.{six, motif-small}
 use Rattle.a5.proofs.Axioms.{first, Shape, shape}
-use Rattle.lsystem.specs.Walks.{axiomState}
-use Rattle.lsystem.proofs.CellLaws.{axiomIn, six}
+use Rattle.lsystem.proofs.CellLaws.{axiomIn}
 
-pub four-shifted : (r : ℕ) → r ≤ 30 → (1 * 2 ^ (2 * r)) % 2 ^ 64 ≡ 4 ^ r
-four-shifted r h =
-    let p : 2 ^ (2 * r) < 2 ^ 64 = pow-lt {i = 2 * r} {j = 64} (omega arith) in
-    rw N.one-mul (N.mod-eq-of-lt p ∙ four-by-shift r)
+pub axiom-state : (o : ℕ) → o ≤ 5 → first (axiomIn o) ≡ 2 * axiomMotif o
+unfolding axiomIn axiomMotif
+axiom-state = six (λ o. first (axiomIn o) ≡ 2 * axiomMotif o) refl refl refl refl refl refl
 
-pub axiom-state : (o : ℕ) → o ≤ 5 → first (axiomIn o) ≡ axiomState o
-unfolding axiomIn axiomState
-axiom-state = six (λ o. first (axiomIn o) ≡ axiomState o) refl refl refl refl refl refl
+pub axiom-state-small : (o : ℕ) → 2 * axiomMotif o < 28
+axiom-state-small o = omega (arith, motif-small o)
 
-pub axiom-state-small : (o : ℕ) → o ≤ 5 → axiomState o < 28
-unfolding axiomState
-axiom-state-small = six (λ o. axiomState o < 28) (omega arith) (omega arith) (omega arith) (omega arith) (omega arith) (omega arith)
+-- of a recipe that a call gives
+module _ (o : ℕ) {w : Recipe} (e : w ≡ recipeOf o) where
+  pub state-of-axiom : o ≤ 5 → 2 * w .motif ≡ first (axiomIn o)
+  unfolding recipeOf
+  state-of-axiom h = ap (λ (w : Recipe). 2 * w .motif) e ∙ sym (axiom-state o h)
 
-pub axiom-shape : (o : ℕ) → o ≤ 5 → Shape (axiomState o)
-axiom-shape o h = subst Shape (axiom-state o h) (shape (axiomIn o))
-
--- ---- the side of the wedge
-pub side-small : (r : ℕ) → r ≤ 30 → 2 ^ r ≤ 2 ^ 30
-side-small r h = N.pow-le-pow-right {n = 2} (omega arith) {i = r} {j = 30} h
-
-pub side-fits : (r : ℕ) → r ≤ 30 → SFits w64 (pos ((1 * 2 ^ r) % 2 ^ 64))
-side-fits r h = rw (rows-shifted r h) (fits (v-upto (2 ^ r) (2 ^ 30) (side-small r h)) tt)
-
-pub side-is : (r : ℕ) → r ≤ 30 → toZ w64 ((1 * 2 ^ r) % 2 ^ 64) ≡ pos (2 ^ r)
-side-is r h = rw (rows-shifted r h) (toZ-pos w64 (2 ^ r) (omega (arith, side-small r h)))
+  pub axiom-shape : o ≤ 5 → Shape (2 * w .motif)
+  axiom-shape h = subst Shape (sym (state-of-axiom h)) (shape (axiomIn o))

@@ -1,11 +1,10 @@
 -- The answer of `triple_to_s`: the flavor's answer says whether the triple is in bounds, and its spot is the position's.
--- Assumes nothing.
 use mathlib.Core.Path.{_≡_, refl, sym, ap, _∙_, subst}
-use mathlib.Core.Bool.{Bool, true, false, not, cond}
+use mathlib.Core.Bool.{Bool, true, false, not}
 use Prim.Native.Nat.{ℕ, zero, suc, _+_, _-_, _*_, _/_, _%_, _^_, _<_, _≤_}
 use native.Mathlib.Omega.{arith}
 use native.Mathlib.Nat as N
-use borrow.Author.Tests.{lt-ltb, le-ltb}
+use borrow.Author.Tests.{le-ltb}
 use lib.Dec.{T}
 use lib.IntN.{ℤ, pos, negℤ, natAbs, _+ℤ_, _-ℤ_}
 use lib.Signed.{nonNeg}
@@ -15,23 +14,27 @@ use Rattle.whole.proofs.View.{view, v-upto, v-same, v-add, v-neg, eq-by, kept}
 use Rattle.whole.proofs.Digits.{twice-power}
 use Rattle.triple.specs.declared.Triple.{Triple}
 use Rattle.triple.specs.declared.FlavorAnswer.{FlavorAnswer}
+use Rattle.triple.specs.declared.domain.DomainAnswer.{DomainAnswer}
+use Rattle.triple.specs.declared.orientation.Recipe.{Recipe}
 use Rattle.triple.specs.declared.refusal.Refusal.{Refusal}
 use Rattle.triple.specs.declared.refusal.Refusal.the-variants as Is
 use Rattle.triple.specs.Refusals.{Told, told, refused, numberOf, refuse}
-use Rattle.triple.specs.Answers.{saidFlavor}
+use Rattle.triple.specs.Domain.{domainOf, rowCount, positionCount}
+use Rattle.triple.specs.Orientations.{recipeOf, placeFrom, curvePlace}
+use Rattle.triple.specs.Answers.{saidDomain, saidFlavor}
 use Rattle.triple.specs.Triples.{goodSum, inBounds, closedFlavor, flavorOf}
+use Rattle.triple.proofs.DomainLaws.{out-of-domain, in-domain, shallow, oriented, rows-most, v-rows}
+use Rattle.triple.proofs.OrientationLaws.{six, place-is}
 use Rattle.a5.proofs.Spots.{Spot, spot}
 use Rattle.a5.proofs.FootprintLaws.{spot-is}
 use Rattle.a5.proofs.Axioms.{tripleAt, spotAt, bounds-wedge, triple-spot}
-use Rattle.a5.proofs.Once.{position, position-small}
+use Rattle.a5.proofs.Once.{position}
 use Rattle.lsystem.specs.declared.Position.{Position}
 use Rattle.lsystem.specs.declared.tiles.Spot as Code
 use Rattle.lsystem.specs.declared.tiles.Trail.{Trail}
-use Rattle.lsystem.specs.Cells.{isBackward, placeOf, seek, positionOf}
+use Rattle.lsystem.specs.Cells.{seek, positionOf}
 use Rattle.lsystem.specs.Tiles.{onTile, trailed, Narrow}
-use Rattle.lsystem.proofs.CellLaws.{axiomIn, six}
-use Rattle.lsystem.proofs.CellCode.{side-small}
-use Rattle.lsystem.proofs.CellAnswers.{place-is}
+use Rattle.lsystem.proofs.CellLaws.{axiomIn}
 use Rattle.lsystem.proofs.Numbering.{only-finds, seek-placed}
 use Rattle.lsystem.proofs.TileLaws.{tileAbove, position-trailed}
 
@@ -73,11 +76,11 @@ abbrev read : ℤ → ℤ
 read z = toZ w64 (ofZ w64 z)
 
 module _ (r : ℕ) (t : Triple) (h : (0 < r) × ((r ≤ 30) × (inBounds r t ≡ true))) where
-  pub column-is : (side : ℤ) → side ≡ pos (2 ^ r) → read (read (read side -ℤ pos 1) +ℤ read (toZ w32 (ofZ w32 (t .x)))) ≡ pos (spotAt (r - 1) t .x)
-  column-is side e =
+  pub column-is : (rows : ℤ) → rows ≡ pos (rowCount r) → read (read (read rows -ℤ pos 1) +ℤ read (toZ w32 (ofZ w32 (t .x)))) ≡ pos (spotAt (r - 1) t .x)
+  column-is rows e =
       let s = spotted r t h in
-      let vs = v-same e (v-upto (2 ^ r) (2 ^ 30) (side-small r (h .1 .0))) in
-      let vx = v-same (s .spot-x) (v-add (v-upto (spotAt (r - 1) t .x + 1) (2 ^ 30) (omega (arith, s .small .0))) (v-neg (v-upto (2 ^ r) (2 ^ 30) (side-small r (h .1 .0))))) in
+      let vr = v-rows r (h .1 .0) e in
+      let vx = v-same (s .spot-x) (v-add (v-upto (spotAt (r - 1) t .x + 1) (2 ^ 30) (omega (arith, s .small .0))) (v-neg (v-upto (2 ^ r) (2 ^ 30) (rows-most r (h .1 .0))))) in
       eq-by (search view depth 14) (v-upto _ (2 ^ 30) (omega (arith, s .small .0))) tt (omega arith)
 
   pub row-is : toZ w32 (ofZ w32 (t .y)) ≡ pos (spotAt (r - 1) t .y)
@@ -116,24 +119,15 @@ module _ (o n : ℕ) (t : Triple) (h : o ≤ 5) (k : n ≤ 29) (b : inBounds (su
       ∙ ap (λ (q : Trail). 4 * q .s + q .tile % 4) (eq ∙ ap (λ m. trailed (suc n) u (onTile m)) (sym (tile-above o h)))
       ∙ position-trailed (axiomIn o) n t b u e
 
-  place-below : p < 4 ^ suc n
-  place-below = subst (λ m. m < 4 ^ suc n) (sym place-found) (position-small (axiomIn o) n t b)
-
-  looked-up : (s m : ℕ) (back : Bool) → back ≡ isBackward o → m ≡ 4 ^ suc n → s ≡ cond back (m - 1 - p) p → told (record { s = s; flavor = closedFlavor (suc n) t }) ≡ seek o (suc n) t (4 ^ suc n) 0
-  looked-up s m back eb em es =
-      ap (λ s. told (record { s = s; flavor = closedFlavor (suc n) t })) (place-is o (suc n) p m s back eb em es ∙ ap (placeOf o (suc n)) place-found)
+  looked-up : {w : Recipe} → w ≡ recipeOf o → {m : ℕ} → m ≡ positionCount (suc n) → {s : ℕ} → s ≡ placeFrom (w .backward) m p → told (record { s = s; flavor = closedFlavor (suc n) t }) ≡ seek o (suc n) t (4 ^ suc n) 0
+  looked-up ew em es =
+      ap (λ s. told (record { s = s; flavor = closedFlavor (suc n) t })) (place-is o ew (suc n) p (omega arith) em es ∙ ap (curvePlace o (suc n)) place-found)
       ∙ sym (seek-placed o n h k t b)
 
 -- the same, as the code has the resolution
 module _ (o : ℕ) (t : Triple) (u : Code.Spot) (q : Trail) (p : ℕ) (ep : p ≡ 4 * q .s + q .tile % 4) where
-  pub below-at : (r : ℕ) → (o ≤ 5) × ((0 < r) × ((r ≤ 30) × (inBounds r t ≡ true))) → spot (u .x) (u .y) (u .g) ≡ spotAt (r - 1) t → q ≡ trailed r u (onTile (112 + o / 2)) → p < 4 ^ r
-  below-at zero h e eq = absurd (N.not-suc-le-zero (h .1 .0))
-  below-at (suc n) h e eq =
-      let m : suc n - 1 ≡ n = omega arith in
-      place-below o n t (h .0) (omega (arith, h .1 .1 .0)) (h .1 .1 .1) u (e ∙ ap (λ n. spotAt n t) m) q eq p ep
-
   pub found-at : (r : ℕ) → (o ≤ 5) × ((0 < r) × ((r ≤ 30) × (inBounds r t ≡ true))) → spot (u .x) (u .y) (u .g) ≡ spotAt (r - 1) t → q ≡ trailed r u (onTile (112 + o / 2))
-      → (s m : ℕ) (back : Bool) → back ≡ isBackward o → m ≡ 4 ^ r → s ≡ cond back (m - 1 - p) p → told (record { s = s; flavor = closedFlavor r t }) ≡ seek o r t (4 ^ r) 0
+      → {w : Recipe} → w ≡ recipeOf o → {m : ℕ} → m ≡ positionCount r → {s : ℕ} → s ≡ placeFrom (w .backward) m p → told (record { s = s; flavor = closedFlavor r t }) ≡ seek o r t (4 ^ r) 0
   found-at zero h e eq = absurd (N.not-suc-le-zero (h .1 .0))
   found-at (suc n) h e eq =
       let m : suc n - 1 ≡ n = omega arith in
@@ -153,47 +147,42 @@ told-within true true e = (refl, (refl, (cc)))
 told-within true false e = let z : _≡_ {A = ℕ} 0 1 = cc in absurd (omega arith)
 told-within false within e = let z : _≡_ {A = ℕ} 0 1 = cc in absurd (omega arith)
 
-module _ (o r : ℕ) (t : Triple) where
-  pub position-far : 30 < r → refused (numberOf Is.Resolution) ≡ positionOf o r t
+module _ (o r : ℕ) (t : Triple) {a : DomainAnswer} (ea : saidDomain a ≡ domainOf o r) where
+  pub position-outside : {e : Refusal} → a ≡ DomainAnswer.Refused e → refused (numberOf e) ≡ positionOf o r t
   unfolding positionOf
-  position-far h = simp (lt-ltb 30 r h)
+  position-outside m = out-of-domain o r a ea _ m
 
-  module _ (h : r ≤ 30) where
-    pub position-facing : 5 < o → refused (numberOf Is.Orientation) ≡ positionOf o r t
+  module _ (m : a ≡ DomainAnswer.In) (b : FlavorAnswer) (eb : saidFlavor b ≡ flavorOf r t) where
+    known : saidFlavor b ≡ answered (goodSum t) (inBounds r t) (told (closedFlavor r t))
+    unfolding flavorOf
+    known = eb ∙ simp (le-ltb 30 r (shallow o r a ea m))
+
+    searched : answered (goodSum t) (inBounds r t) (seek o r t (4 ^ r) 0) ≡ positionOf o r t
     unfolding positionOf
-    position-facing k = simp (le-ltb 30 r h, lt-ltb 5 o k)
+    searched = in-domain o r a ea m _
 
-    module _ (k : o ≤ 5) (a : FlavorAnswer) (ea : saidFlavor a ≡ flavorOf r t) where
-      known : saidFlavor a ≡ answered (goodSum t) (inBounds r t) (told (closedFlavor r t))
-      unfolding flavorOf
-      known = ea ∙ simp (le-ltb 30 r h)
+    pub position-refused : {e : Refusal} → b ≡ FlavorAnswer.Refused e → refused (numberOf e) ≡ positionOf o r t
+    position-refused {e} k = refused-alike _ _ (numberOf e) (goodSum t) (inBounds r t) (ap saidFlavor (sym k) ∙ known) ∙ searched
 
-      searched : answered (goodSum t) (inBounds r t) (seek o r t (4 ^ r) 0) ≡ positionOf o r t
-      unfolding positionOf
-      searched = simp (le-ltb 30 r h, le-ltb 5 o k)
+    module _ {f : ℕ} (k : b ≡ FlavorAnswer.Flavor f) where
+      within : (goodSum t ≡ true) × ((inBounds r t ≡ true) × (f ≡ closedFlavor r t))
+      within = told-within (goodSum t) (inBounds r t) (ap saidFlavor (sym k) ∙ known)
 
-      pub position-refused : {e : Refusal} → a ≡ FlavorAnswer.Refused e → refused (numberOf e) ≡ positionOf o r t
-      position-refused {e} m = refused-alike _ _ (numberOf e) (goodSum t) (inBounds r t) (ap saidFlavor (sym m) ∙ known) ∙ searched
+      pub within-bounds : inBounds r t ≡ true
+      within-bounds = within .1 .0
 
-      module _ {f : ℕ} (m : a ≡ FlavorAnswer.Flavor f) where
-        within : (goodSum t ≡ true) × ((inBounds r t ≡ true) × (f ≡ closedFlavor r t))
-        within = told-within (goodSum t) (inBounds r t) (ap saidFlavor (sym m) ∙ known)
+      pub position-found : {s : ℕ} → told (record { s = s; flavor = closedFlavor r t }) ≡ seek o r t (4 ^ r) 0 → told (record { s = s; flavor = f }) ≡ positionOf o r t
+      position-found {s} e =
+          ap (λ f. told (record { s = s; flavor = f })) (within .1 .1)
+          ∙ e
+          ∙ (λ i. answered (sym (within .0) i) (sym (within .1 .0) i) (seek o r t (4 ^ r) 0))
+          ∙ searched
 
-        pub lookup-asks : 0 < r → (o ≤ 5) × ((0 < r) × ((r ≤ 30) × (inBounds r t ≡ true)))
-        lookup-asks z = (k, (z, (h, within .1 .0)))
+      pub position-only : r ≤ 0 → told (record { s = 0; flavor = f }) ≡ positionOf o r t
+      position-only z = position-found (only r (within .1 .0) z)
+        where
+          only : (r : ℕ) → inBounds r t ≡ true → r ≤ 0 → told (record { s = 0; flavor = closedFlavor r t }) ≡ seek o r t (4 ^ r) 0
+          only zero b z = sym (only-finds o t b)
+          only (suc n) b z = let y : ⊥ = omega arith in absurd y
 
-        pub position-found : {s : ℕ} → told (record { s = s; flavor = closedFlavor r t }) ≡ seek o r t (4 ^ r) 0 → told (record { s = s; flavor = f }) ≡ positionOf o r t
-        position-found {s} e =
-            ap (λ f. told (record { s = s; flavor = f })) (within .1 .1)
-            ∙ e
-            ∙ (λ i. answered (sym (within .0) i) (sym (within .1 .0) i) (seek o r t (4 ^ r) 0))
-            ∙ searched
-
-        pub position-only : r ≤ 0 → told (record { s = 0; flavor = f }) ≡ positionOf o r t
-        position-only z = position-found (only r h (within .1 .0) z)
-          where
-            only : (r : ℕ) → r ≤ 30 → inBounds r t ≡ true → r ≤ 0 → told (record { s = 0; flavor = closedFlavor r t }) ≡ seek o r t (4 ^ r) 0
-            only zero l b z = sym (only-finds o t b)
-            only (suc n) l b z = let y : ⊥ = omega arith in absurd y
-
-pub ruleset positions = (position-far, position-facing, position-refused, position-found, position-only)
+pub ruleset positions = (shallow, oriented, within-bounds, position-outside, position-refused, position-found, position-only)

@@ -1,5 +1,4 @@
 -- The code of `tiles`: what it reads off a word is the definition's step, and its digits stay small.
--- Assumes nothing.
 use mathlib.Core.Path.{_≡_, ap}
 use Prim.Native.Nat.{ℕ, zero, suc, _+_, _-_, _*_, _/_, _%_, _^_, _<_, _≤_}
 use native.Mathlib.Omega.{arith}

@@ -1,6 +1,5 @@
 -- The lookup from tile to tile is the lookup by footprints. A tile is a state and the triangle of its own scale that the spot lies in; the next bit of the three
 -- numbers says the triangle of the children's scale, and with it the child and the tile there. Which bits come after does not depend on where the child begins.
--- Assumes nothing.
 use mathlib.Core.Path.{_≡_, refl, sym, ap, _∙_, subst}
 use mathlib.Core.Bool.{true}
 use mathlib.Core.List.{List, [], _∷_}

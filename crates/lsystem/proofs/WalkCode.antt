@@ -1,5 +1,4 @@
 -- The code's walk: what it reads off its words is where A5's footprints begin and its leaves lie, so it lands where the walk does.
--- Assumes nothing.
 use mathlib.Core.Path.{_≡_, refl, sym, ap, _∙_, subst}
 use mathlib.Core.List.{List, [], _∷_}
 use Prim.Native.Nat.{ℕ, zero, suc, _+_, _-_, _*_, _/_, _%_, _^_, _<_, _≤_}
@@ -19,7 +18,7 @@ use Rattle.a5.proofs.Spots.{Spot, spot, moved, leaf, walk}
 use Rattle.a5.proofs.Places.{walkFlavor}
 use Rattle.a5.proofs.FootprintLaws.{spot-is, walk-in}
 use Rattle.a5.proofs.Axioms.{Shape, tripleAt}
-use Rattle.lsystem.specs.declared.Named.{Named}
+use Rattle.lsystem.specs.declared.cell.Cell.{Cell}
 use Rattle.lsystem.specs.declared.walk.Stand.{Stand}
 use Rattle.lsystem.specs.declared.walk.Landing.{Landing}
 use Rattle.lsystem.specs.Walks.{walkWord, walkWords, endWord, endWords, standing, strode, walked, landed, cellBy, Roomy}
@@ -154,7 +153,7 @@ module _ (k n s : ℕ) (h : Shape k) (l : n ≤ 29) (p : Stand) (e : p ≡ walke
       let i = lands-at .0 in
       (subst (λ (m : ℕ). m < 2 ^ 30) (sym (ap (λ (p : Spot). p .x) i)) (w .0), (subst (λ (m : ℕ). m < 2 ^ 30) (sym (ap (λ (p : Spot). p .y) i)) (w .1 .0), subst (λ (m : ℕ). m < 2 ^ 30) (sym (ap (λ (p : Spot). p .g) i)) (w .1 .1)))
 
-  cell-is : (t : Triple) → t ≡ record { x = pos (q .x + 1) -ℤ pos (2 ^ suc n); y = pos (q .y); z = negℤ (pos (q .g)) } → _≡_ {A = Named} (record { triple = t; flavor = q .flavor }) (cellBy k n s)
+  cell-is : (t : Triple) → t ≡ record { x = pos (q .x + 1) -ℤ pos (2 ^ suc n); y = pos (q .y); z = negℤ (pos (q .g)) } → _≡_ {A = Cell} (record { triple = t; flavor = q .flavor }) (cellBy k n s)
   unfolding cellBy tripleAt
   cell-is t g =
       let i = lands-at in
@@ -162,7 +161,7 @@ module _ (k n s : ℕ) (h : Shape k) (l : n ≤ 29) (p : Stand) (e : p ≡ walke
       λ j. record { triple = m j; flavor = i .1 j }
 
 pub cell-at-is : (k r s : ℕ) → 0 < r → r ≤ 30 → Shape k → (p : Stand) → p ≡ walked (r - 1) s (standing k) → (q : Landing) → q ≡ landed p (s % 4)
-    → (t : Triple) → t ≡ record { x = pos (q .x + 1) -ℤ pos (2 ^ r); y = pos (q .y); z = negℤ (pos (q .g)) } → _≡_ {A = Named} (record { triple = t; flavor = q .flavor }) (cellBy k (r - 1) s)
+    → (t : Triple) → t ≡ record { x = pos (q .x + 1) -ℤ pos (2 ^ r); y = pos (q .y); z = negℤ (pos (q .g)) } → _≡_ {A = Cell} (record { triple = t; flavor = q .flavor }) (cellBy k (r - 1) s)
 cell-at-is k r s z l h p e q f t g =
     let m : r ≡ suc (r - 1) = omega arith in
     cell-is k (r - 1) s h (omega arith) p e q f t (g ∙ ap (λ m. record { x = pos (q .x + 1) -ℤ pos (2 ^ m); y = pos (q .y); z = negℤ (pos (q .g)) }) m)

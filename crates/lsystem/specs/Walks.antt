@@ -9,7 +9,7 @@ use Rattle.a5.proofs.Footprints.{at-x, at-y, at-g, leaf-x, leaf-y, leaf-g, leaf
 use Rattle.a5.proofs.Spots.{walk}
 use Rattle.a5.proofs.Places.{walkFlavor}
 use Rattle.a5.proofs.Axioms.{tripleAt}
-use Rattle.lsystem.specs.declared.Named.{Named}
+use Rattle.lsystem.specs.declared.cell.Cell.{Cell}
 use Rattle.lsystem.specs.declared.walk.Stand.{Stand}
 use Rattle.lsystem.specs.declared.walk.Landing.{Landing}
 
@@ -56,7 +56,7 @@ landed p d = record {
 }
 
 -- the cell at the place s of an axiom's curve, with n levels above the leaf
-unfoldable pub cellBy : ℕ → ℕ → ℕ → Named
+unfoldable pub cellBy : ℕ → ℕ → ℕ → Cell
 cellBy k n s = record { triple = tripleAt n (walk n k s); flavor = walkFlavor n k s }
 
 -- what the code asks so that nothing overflows, with k levels below

@@ -10,14 +10,16 @@ ghost use Rattle.lsystem.specs.Answers.{saidPosition};
 ghost use Rattle.lsystem.specs.Cells.{positionOf, seek};
 ghost use Rattle.lsystem.specs.Tiles.{Narrow};
 use crate::Position;
-use crate::cell::cells_at;
-use crate::cell::place_from;
-use crate::cell::recipe_of;
-use crate::cell::side_of;
 use crate::tiles::Spot;
 use crate::tiles::seek;
 use triple::FlavorAnswer;
 use triple::Triple;
+use triple::domain::DomainAnswer;
+use triple::domain::domain_of;
+use triple::domain::position_count;
+use triple::domain::row_count;
+use triple::orientation::place_from;
+use triple::orientation::recipe_of;
 use triple::refusal::Refusal;
 
 pub enum PositionAnswer {
@@ -29,7 +31,7 @@ fn spot_of(resolution: u8, t: Triple) -> Spot
     requires { ⌜ (0 < resolution) × ((resolution ≤ 30) × (inBounds resolution t ≡ true)) ⌝ }
     ensures { λ p. ⌜ (Narrow p) × (spot (p .x) (p .y) (p .g) ≡ spotAt (resolution - 1) t) ⌝ }
 {
-    let x = side_of(resolution) - 1 + t.x as i64;
+    let x = row_count(resolution) - 1 + t.x as i64;
     let g = -(t.z as i64);
     Spot {
         x: x as u64,
@@ -46,18 +48,16 @@ fn looked_up(orientation: u8, resolution: u8, t: Triple) -> u64
     let above = 112 + (orientation / 2) as u64;
     let place = seek(above, resolution as u64, spot_of(resolution, t)).end();
     let recipe = recipe_of(orientation);
-    place_from(recipe.backward, cells_at(resolution), place)
+    place_from(recipe.backward, position_count(resolution), place)
 }
 
 // The position of a triple. The one cell of resolution 0 is on no tile.
 pub fn triple_to_s(orientation: u8, resolution: u8, t: Triple) -> PositionAnswer
     ensures { λ a. ⌜ saidPosition a ≡ positionOf orientation resolution t ⌝ }
 {
-    if resolution > Triple::GREATEST_RESOLUTION {
-        return PositionAnswer::Refused(Refusal::Resolution);
-    }
-    if orientation > 5 {
-        return PositionAnswer::Refused(Refusal::Orientation);
+    let domain = domain_of(orientation, resolution);
+    if let DomainAnswer::Refused(e) = domain {
+        return PositionAnswer::Refused(e);
     }
     let known = t.flavor(resolution);
     match known {

@@ -1,8 +1,7 @@
--- Child steps: the leaf where the node is, the node below it, the cell by its corner sum, and the step's refusals in their order.
--- Assumes nothing.
+-- Child steps: a node's children by its place, the cell of a corner sum, and the step's refusals in their order.
 use mathlib.Core.Path.{_≡_, refl, sym, ap, _∙_}
 use mathlib.Core.Bool.{Bool, true, false, not, _&&_, cond}
-use Prim.Native.Nat.{ℕ, zero, suc, _+_, _-_, _*_, _/_, _%_, _^_, _≤_, _<_}
+use Prim.Native.Nat.{ℕ, zero, suc, _+_, _*_, _/_, _%_, _^_, _≤_, _<_}
 use native.Mathlib.Omega.{arith}
 use borrow.Author.Tests.{le-ltb, lt-ltb, le-leb, eq-eqb, ne-eqb, not-true, not-false}
 use lib.Dec.{eqb, leb}
@@ -10,47 +9,56 @@ use lib.IntN.{ℤ, pos, _+ℤ_, _-ℤ_, _*ℤ_, natAbs}
 use mir.Syntax.{w32, w64}
 use mir.Val.{SFits}
 use mir.ValLaws.{toZ-ofZ}
-use Rattle.whole.proofs.Parts.{abs-parts, sum-le, mul-up, mul-dn}
-use Rattle.whole.proofs.View.{View, rd, view, v-upto, v-abs, v-within, eq-by, fits}
+use Rattle.whole.proofs.View.{View, rd, v-upto, v-within, fits}
 use Rattle.triple.specs.declared.Triple.{Triple}
+use Rattle.triple.specs.declared.domain.DomainAnswer.{DomainAnswer}
+use Rattle.triple.specs.declared.orientation.Recipe.{Recipe}
 use Rattle.triple.specs.declared.refusal.Refusal.{Refusal}
 use Rattle.triple.specs.declared.refusal.Refusal.the-variants as Is
-use Rattle.triple.specs.Refusals.{told, refused, numberOf, refuse}
+use Rattle.triple.specs.Refusals.{Told, told, refused, numberOf, refuse}
+use Rattle.triple.specs.Domain.{domainOf}
+use Rattle.triple.specs.Orientations.{axiomMotif, axiomOf, isBackward, recipeOf, placeFrom, curvePlace, movedBy, shifted}
+use Rattle.triple.specs.Answers.{saidDomain}
 use Rattle.triple.specs.Triples.{inBounds}
-use Rattle.turtle.specs.declared.AB.{AB}
+use Rattle.triple.proofs.DomainLaws.{out-of-domain, in-domain, shallow, rows-most}
+use Rattle.triple.proofs.OrientationLaws.{place-below}
 use Rattle.turtle.specs.declared.letter.Flavor.{Flavor}
 use Rattle.turtle.specs.declared.corner.TripleAnswer.{TripleAnswer}
-use Rattle.turtle.specs.Plane.{ab, origin, _⊕_, thrice, signed, flipped}
+use Rattle.turtle.specs.Plane.{ab, origin, _⊕_, thrice, flipped}
 use Rattle.turtle.specs.Corners.{tripleOf}
 use Rattle.turtle.specs.Answers.{saidTriple}
-use Rattle.turtle.proofs.CornerLaws.{Within, triple, triple-is, pair-is}
-use Rattle.grammar.specs.Curves.{place, tokenOf}
-use Rattle.tables.specs.Children.{child, offset, leaf}
-use Rattle.tables.specs.Table.{stateOf, flavorNumber}
-use Rattle.tables.specs.Descent.{childAt, offsetAt, sumAt, flavorAt}
-use Rattle.lsystem.specs.declared.Named.{Named}
-use Rattle.nodes.specs.declared.Node.{Node}
-use Rattle.nodes.specs.declared.Wide.{Wide}
-use Rattle.nodes.specs.declared.Bounded.{Bounded}
+use Rattle.turtle.specs.Inside.Sizes.{Within}
+use Rattle.turtle.proofs.CornerLaws.{triple, triple-is}
+use Rattle.grammar.specs.Curves.{placeIn, tokenOf}
+use Rattle.tables.specs.Children.{child}
+use Rattle.tables.specs.Table.{stateOf, flavorNumber, leafOf as drawnLeaf}
+use Rattle.tables.specs.Descent.{childAt, offsetAt}
+use Rattle.tables.proofs.HornerLaws.{twice-place}
+use Rattle.lsystem.specs.declared.cell.Cell.{Cell}
+use Rattle.lsystem.specs.Cells.{flavorIn, named}
+use Rattle.lsystem.proofs.CellLaws.{Spread, in-bounds-spread}
 use Rattle.a5.specs.A5.{a5}
 use Rattle.a5.specs.A5Table.{a5Table}
-use Rattle.lsystem.specs.Cells.{axiomOf, isBackward, isShifted, shifted, flavorIn, named}
-use Rattle.nodes.specs.Descents.{movedBy, namedBy}
-use Rattle.lsystem.specs.Walks.{axiomState}
-use Rattle.nodes.specs.Nodes.{goodNode, isFlipped, spot, node, axiomNode, digitOf, childCell, below, bounded, childOf}
-use Rattle.nodes.specs.NodeAnswers.{axiomNodeOf, saidBounded}
 use Rattle.a5.proofs.A5Entries.{bytes, tokens-are, child-state, child-offset, leaf-sum, leaf-flavor}
-use Rattle.lsystem.proofs.CellLaws.{Spread, in-bounds-spread}
-use Rattle.lsystem.proofs.CellCode.{side-small}
-use Rattle.nodes.proofs.NodeLaws.{good-of}
+use Rattle.nodes.specs.declared.Node.{Node}
+use Rattle.nodes.specs.declared.ChildStep.{ChildStep}
+use Rattle.nodes.specs.declared.Wide.{Wide}
+use Rattle.nodes.specs.declared.Bounded.{Bounded}
+use Rattle.nodes.specs.declared.descent.Place.{Place}
+use Rattle.nodes.specs.declared.descent.Drawn.{Drawn}
+use Rattle.nodes.specs.Nodes.{goodNode, isFlipped, nodeStart, node, axiomNode, childCell, below, bounded, stepTo, childStepOf}
+use Rattle.nodes.specs.NodeAnswers.{axiomNodeOf, saidBounded}
+use Rattle.nodes.specs.Inside.Descents.{stepAt, down, leafFrom, placeOfNode, nodeOfPlace, namedBy, Room, Exact}
+use Rattle.nodes.proofs.DescentLaws.{leafOf, leaf-sum-of, leaf-flavor-of, down-exact}
+use Rattle.nodes.proofs.NodeLaws.{good-of, place-room}
 
 -- ---- the axiom's node
--- its token is half its state
-pub axiom-token : (o : ℕ) → axiomState o / 2 ≡ tokenOf a5 (axiomOf o)
-unfolding axiomState axiomOf tokenOf
+-- its motif is the token of its letter
+pub axiom-token : (o : ℕ) → axiomMotif o ≡ tokenOf a5 (axiomOf o)
+unfolding axiomMotif axiomOf tokenOf
 axiom-token o = rw tokens-are (go (leb o 1) (leb o 3))
   where
-    go : (a b : Bool) → cond a 0 (cond b 4 2) / 2 ≡ place bytes (cond a 65 (cond b 67 66))
+    go : (a b : Bool) → cond a 0 (cond b 2 1) ≡ placeIn bytes (65 + cond a 0 (cond b 2 1))
     go true b = refl
     go false true = refl
     go false false = refl
@@ -60,11 +68,13 @@ module _ (o : ℕ) where
   unfolding axiomNodeOf
   axiom-refused h = rw (lt-ltb 5 o h)
 
-  pub axiom-told : o ≤ 5 → (k : ℕ) → k ≡ axiomState o → (n : Node) → n ≡ node (k / 2) (eqb 0 1) (ab (pos 0) (pos 0)) → told n ≡ axiomNodeOf o
-  unfolding axiomNodeOf axiomNode origin
-  axiom-told h k ek n en = rw (le-ltb 5 o h, en, ek, axiom-token o)
+  pub axiom-told : o ≤ 5 → {w : Recipe} → w ≡ recipeOf o → {n : Node} → n ≡ node (w .motif) (eqb 0 1) (ab (pos 0) (pos 0)) → told n ≡ axiomNodeOf o
+  unfolding axiomNodeOf axiomNode origin recipeOf
+  axiom-told h ew en = rw (le-ltb 5 o h, en, ew, axiom-token o)
 
--- ---- a state's token and flip
+pub ruleset axioms = (axiom-refused, axiom-told)
+
+-- ---- the children of a good node, by its place
 state-token : (m : ℕ) (f : Bool) → stateOf m f / 2 ≡ m
 unfolding stateOf
 state-token m false = omega arith
@@ -75,55 +85,56 @@ unfolding stateOf
 state-flip m false = ne-eqb ((2 * m + 0) % 2) 1 (omega arith)
 state-flip m true = eq-eqb ((2 * m + 1) % 2) 1 (omega arith)
 
--- ---- what the table's entries make of a good node
 flavor-is : (g : Flavor) (f : ℕ) → pos f ≡ flavorNumber g → f ≡ flavorIn g
 flavor-is (Flavor.Of g) f e = cc
 flavor-is Flavor.None f e = cc
 
-module _ (n : Node) (g : goodNode n ≡ true) (d : ℕ) (l : d < 4) (s : AB) (es : s ≡ spot n) (k : ℕ) (ek : k ≡ stateOf (n .motif) (isFlipped n)) where
+module _ (n : Node) (g : goodNode n ≡ true) (d : ℕ) (l : d < 4) where
   listed : n .motif < 14
   listed = omega (arith, good-of n g .motif)
 
-  -- the leaf where the node is
-  pub leaf-sum-told : (x y : ℤ) → x ≡ sumAt a5Table k d .a → y ≡ sumAt a5Table k d .b → thrice s ⊕ ab x y ≡ childCell n d .sum
-  unfolding childCell
-  leaf-sum-told x y ex ey =
-      let sum : ab x y ≡ leaf a5 (n .motif) (isFlipped n) d .sum = pair-is ex ey ∙ ap (λ j. sumAt a5Table j d) ek ∙ leaf-sum (n .motif) (isFlipped n) d listed l in
-      rw (es, sum)
-
-  pub leaf-flavor-told : (f : ℕ) → pos f ≡ flavorAt a5Table k d → f ≡ flavorIn (childCell n d .flavor)
-  unfolding childCell
-  leaf-flavor-told f ef = flavor-is (leaf a5 (n .motif) (isFlipped n) d .flavor) f (ef ∙ ap (λ j. flavorAt a5Table j d) ek ∙ leaf-flavor (n .motif) (isFlipped n) d listed l)
-
-  -- the node below it
-  pub step-told : (j : ℕ) (x y : ℤ) → pos j ≡ childAt a5Table k d → x ≡ offsetAt a5Table k d .a → y ≡ offsetAt a5Table k d .b → node (j / 2) (eqb (j % 2) 1) (s ⊕ s ⊕ ab x y) ≡ below n d
-  unfolding below
-  step-told j x y ej ex ey =
+  -- the node below is the place one level down
+  pub below-down : nodeOfPlace (down (placeOfNode n) d) ≡ below n d
+  unfolding below down stepAt
+  below-down =
+      let f = isFlipped n in
+      let k = stateOf (n .motif) f in
       let c = child a5 (n .motif) d in
-      let state : j ≡ stateOf (c .token) (flipped (isFlipped n) (c .flip)) = ap natAbs (ej ∙ ap (λ i. childAt a5Table i d) ek ∙ child-state (n .motif) (isFlipped n) d listed l) in
-      let offset : ab x y ≡ signed (isFlipped n) (offset a5 (n .motif) d) = pair-is ex ey ∙ ap (λ j. offsetAt a5Table j d) ek ∙ child-offset (n .motif) (isFlipped n) d listed l in
-      rw (state, state-token, state-flip, offset, es)
+      let state : natAbs (childAt a5Table k d) ≡ stateOf (c .token) (flipped f (c .flip)) = ap natAbs (child-state (n .motif) f d listed l) in
+      let start = twice-place (nodeStart n) (offsetAt a5Table k d) ∙ ap (λ o. nodeStart n ⊕ nodeStart n ⊕ o) (child-offset (n .motif) f d listed l) in
+      ap (λ j. node (j / 2) (eqb (j % 2) 1) (ab (pos 2 *ℤ nodeStart n .a +ℤ offsetAt a5Table k d .a) (pos 2 *ℤ nodeStart n .b +ℤ offsetAt a5Table k d .b))) state
+      ∙ rw (state-token, state-flip) (ap (node (c .token) (flipped f (c .flip))) start)
 
--- twice a coordinate of a good node, and an offset: small enough for a node
-pub twice-small : (x o : ℤ) → natAbs x ≤ 2 ^ 36 → natAbs o ≤ 16 → natAbs (rd w64 (rd w64 (pos 2 *ℤ rd w64 x) +ℤ rd w64 o)) ≤ 2 ^ 38
-twice-small x o hx ho =
-    let vx = v-abs x (2 ^ 36) hx in
-    let vo = v-abs o 16 ho in
-    let is : rd w64 (rd w64 (pos 2 *ℤ rd w64 x) +ℤ rd w64 o) ≡ pos 2 *ℤ x +ℤ o = eq-by (search view depth 9) (search view) tt (omega arith) in
-    rw is (omega (arith, abs-parts (pos 2 *ℤ x +ℤ o), abs-parts x, abs-parts o, sum-le (pos 2 *ℤ x) o, mul-up 2 x, mul-dn 2 x))
+  -- the leaf where the node is, as the table has it
+  pub leaf-cell : drawnLeaf (childCell n d) ≡ leafOf (placeOfNode n) d
+  unfolding childCell leafOf
+  leaf-cell =
+      let sum = leaf-sum (n .motif) (isFlipped n) d listed l in
+      let flavor = leaf-flavor (n .motif) (isFlipped n) d listed l in
+      λ i. record { sum = thrice (nodeStart n) ⊕ sym sum i; flavor = sym flavor i }
 
--- ---- a drawn triple, moved or not
-abbrev pub v-side : (r : ℕ) → r ≤ 30 → View (pos (2 ^ r))
-v-side r h = v-upto (2 ^ r) (2 ^ 30) (side-small r h)
+  -- and as the code has it
+  module _ {p : Place} (ep : p ≡ placeOfNode n) {c : Drawn} (ec : c ≡ leafFrom p d) where
+    drawn-sum : c .sum ≡ childCell n d .sum
+    drawn-sum =
+        let r = place-room n g ep in
+        ap (λ (c : Drawn). c .sum) ec ∙ leaf-sum-of p d (r .state) l ∙ ap (λ p. leafOf p d .sum) ep ∙ sym (ap (λ l. l .sum) leaf-cell)
 
-module _ (moves : Bool) (r : ℕ) (t : Triple) where
-  pub moved-side : moves ≡ true → record { x = t .x -ℤ pos (2 ^ r); y = t .y +ℤ pos (2 ^ r); z = t .z } ≡ movedBy moves r t
+    drawn-flavor : c .flavor ≡ flavorIn (childCell n d .flavor)
+    drawn-flavor =
+        let r = place-room n g ep in
+        flavor-is (childCell n d .flavor) (c .flavor)
+        (ap (λ (c : Drawn). pos (c .flavor)) ec ∙ leaf-flavor-of p d (r .state) l ∙ ap (λ p. leafOf p d .flavor) ep ∙ sym (ap (λ l. l .flavor) leaf-cell))
+
+-- ---- a triple, moved or not
+module _ (moves : Bool) (r : ℕ) (t : Triple) {x y z : ℤ} where
+  pub moved-side : moves ≡ true → x ≡ t .x -ℤ pos (2 ^ r) → y ≡ t .y +ℤ pos (2 ^ r) → z ≡ t .z → triple x y z ≡ movedBy moves r t
   unfolding movedBy
-  moved-side e = rw e
+  moved-side e ex ey ez = triple-is ex ey ez ∙ rw e
 
-  pub moved-none : moves ≡ false → t ≡ movedBy moves r t
+  pub moved-none : moves ≡ false → x ≡ t .x → y ≡ t .y → z ≡ t .z → triple x y z ≡ movedBy moves r t
   unfolding movedBy
-  moved-none e = rw e
+  moved-none e ex ey ez = triple-is ex ey ez ∙ rw e
 
 -- ---- the cell of a corner sum, case by case
 abbrev wide : Wide → Triple
@@ -136,8 +147,8 @@ spread-at (suc n) t z h b = in-bounds-spread n (omega arith) t b
 narrow : (v : ℤ) → Within 1073741824 v → SFits w32 v
 narrow v w = fits (v-within 1073741824 1073741824 (w .low) (w .high)) tt
 
-module _ (moves : Bool) (r : ℕ) (p : AB) (f : ℕ) (a : TripleAnswer) (ea : saidTriple a ≡ tripleOf p) where
-  pub cell-far : {e : Refusal} → a ≡ TripleAnswer.Refused e → refused (numberOf Is.Bounds) ≡ bounded r (namedBy moves r p f)
+module _ (moves : Bool) (r : ℕ) (c : Drawn) (a : TripleAnswer) (ea : saidTriple a ≡ tripleOf (c .sum)) where
+  pub cell-far : {e : Refusal} → a ≡ TripleAnswer.Refused e → refused (numberOf Is.Bounds) ≡ bounded r (namedBy moves r c)
   unfolding namedBy
   cell-far m = rw (← (ap saidTriple (sym m) ∙ ea))
 
@@ -150,11 +161,11 @@ module _ (moves : Bool) (r : ℕ) (p : AB) (f : ℕ) (a : TripleAnswer) (ea : sa
     bounds-are : b ≡ inBounds r (wide w)
     bounds-are = eb ∙ rw (le-leb r 30 h, read-is)
 
-    cell-is : (u : Bool) → inBounds r (wide w) ≡ u → refuse (not u) Is.Bounds (told (record { triple = wide w; flavor = f })) ≡ bounded r (namedBy moves r p f)
+    cell-is : (u : Bool) → inBounds r (wide w) ≡ u → refuse (not u) Is.Bounds (told (record { triple = wide w; flavor = c .flavor })) ≡ bounded r (namedBy moves r c)
     unfolding namedBy
     cell-is u eu = rw (← (ap saidTriple (sym m) ∙ ea), ← ew, eu)
 
-    pub cell-out : not b ≡ true → refused (numberOf Is.Bounds) ≡ bounded r (namedBy moves r p f)
+    pub cell-out : not b ≡ true → refused (numberOf Is.Bounds) ≡ bounded r (namedBy moves r c)
     cell-out n = cell-is false (sym bounds-are ∙ not-true b n)
 
     module _ (n : not b ≡ false) where
@@ -173,63 +184,66 @@ module _ (moves : Bool) (r : ℕ) (p : AB) (f : ℕ) (a : TripleAnswer) (ea : sa
       pub cell-fits-z : SFits w32 (rd w64 (w .z))
       cell-fits-z = rw (toZ-ofZ w64 (w .z) fz) (narrow (w .z) (spread .z))
 
-      pub cell-in : (u : Triple) → u ≡ triple (rd w32 (rd w64 (w .x))) (rd w32 (rd w64 (w .y))) (rd w32 (rd w64 (w .z))) → told (record { triple = u; flavor = f }) ≡ bounded r (namedBy moves r p f)
+      pub cell-in : (u : Triple) → u ≡ triple (rd w32 (rd w64 (w .x))) (rd w32 (rd w64 (w .y))) (rd w32 (rd w64 (w .z))) → told (record { triple = u; flavor = c .flavor }) ≡ bounded r (namedBy moves r c)
       cell-in u eu =
           let back : u ≡ wide w = eu ∙ triple-is (toZ-ofZ w32 _ cell-fits-x) (toZ-ofZ w32 _ cell-fits-y) (toZ-ofZ w32 _ cell-fits-z) ∙ read-is in
           rw back (cell-is true inside)
 
 pub ruleset drawn-cells = (cell-far, cell-out, cell-fits-x, cell-fits-y, cell-fits-z, cell-in)
 
--- ---- the step, case by case
-pub good-flag : (n : Node) (g : Bool) → g ≡ goodNode n → not g ≡ false → goodNode n ≡ true
-good-flag n g e h = sym e ∙ not-false g h
+-- ---- the step to the child at the place d
+pub below-exact : {p : Place} {d : ℕ} → Room (2 ^ 37) 0 p → d < 4 → {q : Place} → q ≡ down p d → Exact q
+below-exact {p} {d} r l e = rw e (down-exact p d r l)
 
-pub digit-small : (back : Bool) (d j : ℕ) → d ≤ 3 → j ≡ cond back (3 - d) d → j < 4
-digit-small true d j h e = omega arith
-digit-small false d j h e = omega arith
+module _ (o r : ℕ) (n : Node) (d : ℕ) (g : goodNode n ≡ true) (l : d < 4) {w : Recipe} (ew : w ≡ recipeOf o) {p : Place} (ep : p ≡ placeOfNode n)
+    {c : Drawn} (ec : c ≡ leafFrom p d) (f : Bounded) (ef : saidBounded f ≡ bounded r (namedBy (w .shifted) r c)) where
+  named-is : saidBounded f ≡ bounded r (named o r (childCell n d))
+  unfolding named namedBy shifted recipeOf
+  named-is = ef ∙ rw (drawn-sum n g d l ep ec, drawn-flavor n g d l ep ec, ew)
+
+  pub step-out : f ≡ Bounded.Out → refused (numberOf Is.Bounds) ≡ stepTo o r n d
+  unfolding stepTo
+  step-out k = rw (← (ap saidBounded (sym k) ∙ named-is))
+
+  pub step-told : {v : Cell} → f ≡ Bounded.In v → {q : Place} → q ≡ down p d → {t : Node} → t ≡ nodeOfPlace q → told (record { cell = v; node = t }) ≡ stepTo o r n d
+  unfolding stepTo
+  step-told k eq et =
+      let node-is = et ∙ ap nodeOfPlace (eq ∙ ap (λ p. down p d) ep) ∙ below-down n g d l in
+      rw (← (ap saidBounded (sym k) ∙ named-is), node-is)
+
+pub ruleset stepped = (place-room, below-exact, step-out, step-told)
+
+-- ---- the step by the digit d, case by case
+pub good-told : (n : Node) {g : Bool} → g ≡ goodNode n → not g ≡ false → goodNode n ≡ true
+good-told n {g} e h = sym e ∙ not-false g h
+
+pub place-of-four : (w : Recipe) (d : ℕ) {j : ℕ} → d ≤ 3 → j ≡ placeFrom (w .backward) 4 d → j < 4
+place-of-four w d h e = rw e (place-below (w .backward) 4 d (omega arith))
 
 module _ (o r : ℕ) (n : Node) (d : ℕ) where
-  pub child-nowhere : r ≡ 0 → refused (numberOf Is.Resolution) ≡ childOf o r n d
-  unfolding childOf
+  pub child-nowhere : r ≡ 0 → refused (numberOf Is.Resolution) ≡ childStepOf o r n d
+  unfolding childStepOf
   child-nowhere e = rw e
 
-  module _ (z : r ≡ 0 → ⊥) where
-    pub child-too-fine : 30 < r → refused (numberOf Is.Resolution) ≡ childOf o r n d
-    unfolding childOf
-    child-too-fine h = rw (ne-eqb r 0 z, lt-ltb 30 r h)
+  module _ (z : r ≡ 0 → ⊥) {a : DomainAnswer} (ea : saidDomain a ≡ domainOf o r) where
+    pub child-outside : {e : Refusal} → a ≡ DomainAnswer.Refused e → refused (numberOf e) ≡ childStepOf o r n d
+    unfolding childStepOf
+    child-outside m = rw (ne-eqb r 0 z) (out-of-domain o r a ea _ m)
 
-    module _ (h : r ≤ 30) where
-      pub child-turned : 5 < o → refused (numberOf Is.Orientation) ≡ childOf o r n d
-      unfolding childOf
-      child-turned k = rw (ne-eqb r 0 z, le-ltb 30 r h, lt-ltb 5 o k)
+    module _ (m : a ≡ DomainAnswer.In) {g : Bool} (eg : g ≡ goodNode n) where
+      pub child-bad : not g ≡ true → refused (numberOf Is.Node) ≡ childStepOf o r n d
+      unfolding childStepOf
+      child-bad b = rw (ne-eqb r 0 z, ← eg, not-true g b) (in-domain o r a ea m _)
 
-      module _ (k : o ≤ 5) (g : Bool) (eg : g ≡ goodNode n) where
-        pub child-bad : not g ≡ true → refused (numberOf Is.Node) ≡ childOf o r n d
-        unfolding childOf
-        child-bad b = rw (ne-eqb r 0 z, le-ltb 30 r h, le-ltb 5 o k, ← eg, not-true g b)
+      module _ (b : not g ≡ false) where
+        pub child-no-digit : 3 < d → refused (numberOf Is.Digit) ≡ childStepOf o r n d
+        unfolding childStepOf
+        child-no-digit l = rw (ne-eqb r 0 z, good-told n eg b, lt-ltb 3 d l) (in-domain o r a ea m _)
 
-        module _ (b : not g ≡ false) where
-          pub child-no-digit : 3 < d → refused (numberOf Is.Digit) ≡ childOf o r n d
-          unfolding childOf
-          child-no-digit l = rw (ne-eqb r 0 z, le-ltb 30 r h, le-ltb 5 o k, good-flag n g eg b, lt-ltb 3 d l)
+        pub child-answered : d ≤ 3 → {w : Recipe} → w ≡ recipeOf o → {j : ℕ} → j ≡ placeFrom (w .backward) 4 d → {x : Told ChildStep} → x ≡ stepTo o r n j → x ≡ childStepOf o r n d
+        unfolding childStepOf curvePlace recipeOf
+        child-answered l ew ej e =
+            let place-is : _ ≡ placeFrom (isBackward o) 4 d = ej ∙ ap (λ (w : Recipe). placeFrom (w .backward) 4 d) ew in
+            rw (ne-eqb r 0 z, good-told n eg b, le-ltb 3 d l) (e ∙ ap (stepTo o r n) place-is ∙ in-domain o r a ea m _)
 
-          module _ (l : d ≤ 3) (back : Bool) (eb : back ≡ isBackward o) (j : ℕ) (ej : j ≡ cond back (3 - d) d) (moves : Bool) (em : moves ≡ isShifted o)
-              (p : AB) (ep : p ≡ childCell n j .sum) (f : ℕ) (ef : f ≡ flavorIn (childCell n j .flavor))
-              (c : Bounded) (ec : saidBounded c ≡ bounded r (namedBy moves r p f)) where
-            digit-is : digitOf o d ≡ j
-            unfolding digitOf
-            digit-is = rw (← eb) (sym ej)
-
-            named-is : saidBounded c ≡ bounded r (named o r (childCell n (digitOf o d)))
-            unfolding named namedBy movedBy shifted
-            named-is = ec ∙ rw (digit-is, em, ep, ef)
-
-            pub child-out : c ≡ Bounded.Out → refused (numberOf Is.Bounds) ≡ childOf o r n d
-            unfolding childOf
-            child-out m = rw (ne-eqb r 0 z, le-ltb 30 r h, le-ltb 5 o k, good-flag n g eg b, le-ltb 3 d l, ← (ap saidBounded (sym m) ∙ named-is))
-
-            pub child-told : {w : Named} → c ≡ Bounded.In w → (m : Node) → m ≡ below n j → told (record { cell = w; node = m }) ≡ childOf o r n d
-            unfolding childOf
-            child-told e m em = rw (ne-eqb r 0 z, le-ltb 30 r h, le-ltb 5 o k, good-flag n g eg b, le-ltb 3 d l, ← (ap saidBounded (sym e) ∙ named-is), em, digit-is)
-
-pub ruleset steps = (child-nowhere, child-too-fine, child-turned, child-bad, child-no-digit, child-out, child-told)
+pub ruleset steps = (shallow, good-told, place-of-four, child-nowhere, child-outside, child-bad, child-no-digit, child-answered)

@@ -1,5 +1,4 @@
 -- Each contract of this crate's operations allows one result alone. What an answer says has a left inverse: so two answers that say the same are the same.
--- Assumes nothing.
 use mathlib.Core.Path.{_≡_, refl, sym, ap, _∙_}
 use mathlib.Core.Bool.{Bool}
 use Prim.Native.Nat.{ℕ}
@@ -10,7 +9,7 @@ use Rattle.nodes.specs.declared.Node.{Node}
 use Rattle.nodes.specs.declared.NodeAnswer.{NodeAnswer}
 use Rattle.nodes.specs.declared.ReachedAnswer.{ReachedAnswer}
 use Rattle.nodes.specs.declared.ChildAnswer.{ChildAnswer}
-use Rattle.nodes.specs.Nodes.{goodNode, childOf, nodeOf}
+use Rattle.nodes.specs.Nodes.{goodNode, childStepOf, nodeOf}
 use Rattle.nodes.specs.NodeAnswers.{axiomNodeOf, saidNode, saidReached, saidChild}
 
 -- ---- the answers
@@ -39,5 +38,5 @@ axiom-node-determined o = determined saidNode (one-to-one saidNode (answerOf Nod
 pub node-determined : (o r : ℕ) (t : Triple) (a b : ReachedAnswer) → saidReached a ≡ nodeOf o r t → saidReached b ≡ nodeOf o r t → a ≡ b
 node-determined o r t = determined saidReached (one-to-one saidReached (answerOf ReachedAnswer.Reached ReachedAnswer.Refused) reached-back)
 
-pub child-determined : (o r : ℕ) (n : Node) (d : ℕ) (a b : ChildAnswer) → saidChild a ≡ childOf o r n d → saidChild b ≡ childOf o r n d → a ≡ b
+pub child-determined : (o r : ℕ) (n : Node) (d : ℕ) (a b : ChildAnswer) → saidChild a ≡ childStepOf o r n d → saidChild b ≡ childStepOf o r n d → a ≡ b
 child-determined o r n d = determined saidChild (one-to-one saidChild (answerOf ChildAnswer.Child ChildAnswer.Refused) child-back)

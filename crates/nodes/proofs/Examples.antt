@@ -6,21 +6,23 @@ use lib.IntN.{ℤ, pos, negsuc}
 use lib.Ieee.{Float, nan, inf, fin, ofInt, toSigned}
 use Rattle.triple.specs.declared.Triple.{Triple}
 use Rattle.triple.specs.Refusals.{Told, told, refused, numberOf}
+use Rattle.triple.specs.Orientations.{axiomMotif, axiomOf, isBackward, isShifted, placeFrom, curvePlace, movedBy, shifted}
 use Rattle.triple.specs.Triples.{inBounds}
 use Rattle.turtle.specs.Plane.{origin, neg, _⊕_, thrice, signed, facing, flipped, rot, rots, far}
 use Rattle.turtle.specs.Letters.{toggled, letters, strokeOf}
 use Rattle.turtle.specs.Walk.{symbolOf, symbolsOf, move, corner, turnedFlavor, cell, cells, final}
-use Rattle.turtle.specs.Corners.{cornerSum, candidate, has, tripleOf}
+use Rattle.turtle.specs.Corners.{cornerSum, candidate, hasCornerSum, tripleOf}
 use Rattle.grammar.specs.Words.{upper, mirrored, reversed, wordOf, expandOnce}
-use Rattle.grammar.specs.Texts.{rowsOf, fieldsOf, lineOf, linesOf}
+use Rattle.text.specs.Words.{wordsOf as fieldsOf}
+use Rattle.grammar.specs.Texts.{rowsOf, lineOf, linesOf}
 use Rattle.grammar.specs.Curves as Curves
-use Rattle.grammar.specs.Curves.{passes, strokes, drawing, net, tokenBytes, letterOf, tokenOf, childrenOf}
-use Rattle.tables.specs.Children.{met, children, offsetAfter, offset, leaves}
+use Rattle.grammar.specs.Curves.{passes, strokes, drawing, net, tokenBytes, letterOf, tokenOf, ruleSymbols}
+use Rattle.tables.specs.Children.{childrenAlong, children, offsetAfter, offset, leaves}
 use Rattle.nodes.specs.declared.Node.{Node}
 use Rattle.nodes.specs.declared.ChildStep.{ChildStep}
 use Rattle.a5.specs.A5.{a5Text, a5}
-use Rattle.lsystem.specs.Cells.{axiomOf, isBackward, isShifted, placeOf, drawnCell, shifted, named, cellAt, cellOf, seek, positionOf}
-use Rattle.nodes.specs.Nodes.{goodPosition, goodNode, spot, node, axiomNode, digitOf, childCell, below, childOf, nodeAt, nodeOf}
+use Rattle.lsystem.specs.Cells.{drawnCell, named, cellAt, cellOf, seek, positionOf}
+use Rattle.nodes.specs.Nodes.{goodPosition, goodNode, nodeStart, node, axiomNode, childCell, below, stepTo, childStepOf, nodeAt, nodeOf}
 
 abbrev triple : ℤ → ℤ → ℤ → Triple
 triple x y z = record { x = x; y = y; z = z }
@@ -33,12 +35,12 @@ step x y z f n = told (record { cell = record { triple = triple x y z; flavor = 
 
 -- down to UV's position 6 and VW's position 9 at resolution 2, which name one cell, and what its lookup reaches
 pub step-examples :
-    (childOf 0 1 (axiomNode 0) 1 ≡ step (pos 0) (pos 1) (pos 0) 1 (nodeWith 5 0 (fin false 1 (pos 3)) (fin true 1 (pos 2))))
-    × (childOf 0 2 (nodeAt 0 1 1) 2 ≡ step (negsuc 0) (pos 2) (pos 0) 3 (nodeAt 0 2 6))
-    × (childOf 4 2 (nodeAt 4 1 2) 1 ≡ step (negsuc 0) (pos 2) (pos 0) 3 (nodeWith 1 1 (fin true 1 (pos 4)) (fin false 3 (pos 3))))
+    (childStepOf 0 1 (axiomNode 0) 1 ≡ step (pos 0) (pos 1) (pos 0) 1 (nodeWith 5 0 (fin false 1 (pos 3)) (fin true 1 (pos 2))))
+    × (childStepOf 0 2 (nodeAt 0 1 1) 2 ≡ step (negsuc 0) (pos 2) (pos 0) 3 (nodeAt 0 2 6))
+    × (childStepOf 4 2 (nodeAt 4 1 2) 1 ≡ step (negsuc 0) (pos 2) (pos 0) 3 (nodeWith 1 1 (fin true 1 (pos 4)) (fin false 3 (pos 3))))
     × (nodeOf 0 2 (triple (negsuc 0) (pos 2) (pos 0)) ≡ told (record { position = record { s = 6; flavor = 3 }; node = nodeAt 0 2 6 }))
     × (nodeOf 2 0 (triple (pos 0) (pos 0) (pos 0)) ≡ told (record { position = record { s = 0; flavor = 2 }; node = axiomNode 2 }))
-unfolding numberOf inBounds origin neg _⊕_ thrice signed facing flipped rot rots far toggled letters strokeOf symbolOf symbolsOf move corner turnedFlavor cell cells final cornerSum candidate has tripleOf upper mirrored reversed wordOf expandOnce rowsOf fieldsOf lineOf linesOf Curves.childOf passes strokes drawing net tokenBytes letterOf tokenOf childrenOf met children offsetAfter offset leaves a5Text a5 axiomOf isBackward isShifted placeOf drawnCell shifted named cellAt cellOf seek positionOf goodPosition goodNode spot node axiomNode digitOf childCell below childOf nodeAt nodeOf ofInt toSigned
+unfolding numberOf inBounds origin neg _⊕_ thrice signed facing flipped rot rots far toggled letters strokeOf symbolOf symbolsOf move corner turnedFlavor cell cells final cornerSum candidate hasCornerSum tripleOf upper mirrored reversed wordOf expandOnce rowsOf fieldsOf lineOf linesOf Curves.ruleSymbol passes strokes drawing net tokenBytes letterOf tokenOf ruleSymbols childrenAlong children offsetAfter offset leaves a5Text a5 axiomMotif axiomOf isBackward isShifted placeFrom curvePlace movedBy shifted drawnCell named cellAt cellOf seek positionOf goodPosition goodNode nodeStart node axiomNode childCell below stepTo childStepOf nodeAt nodeOf ofInt toSigned
 step-examples = (refl, refl, refl, refl, refl)
 
 abbrev zeroAt : Float
@@ -46,18 +48,18 @@ zeroAt = fin false 0 (pos 0)
 
 -- the refusals in their order
 pub refused-steps :
-    (childOf 6 0 (nodeWith 14 0 zeroAt zeroAt) 4 ≡ refused 1)
-    × (childOf 6 31 (nodeWith 14 0 zeroAt zeroAt) 4 ≡ refused 1)
-    × (childOf 6 30 (nodeWith 14 0 zeroAt zeroAt) 4 ≡ refused 2)
-    × (childOf 0 1 (nodeWith 14 0 zeroAt zeroAt) 4 ≡ refused 7)
-    × (childOf 0 1 (nodeWith 0 2 zeroAt zeroAt) 0 ≡ refused 7)
-    × (childOf 0 1 (nodeWith 0 0 nan zeroAt) 0 ≡ refused 7)
-    × (childOf 0 1 (nodeWith 0 0 (inf true) zeroAt) 0 ≡ refused 7)
-    × (childOf 0 1 (nodeWith 0 0 (fin true 0 (pos 0)) zeroAt) 0 ≡ refused 7)
-    × (childOf 0 1 (nodeWith 0 0 zeroAt (fin false 1 (pos 1))) 0 ≡ refused 7)
-    × (childOf 0 1 (nodeWith 0 0 zeroAt (fin true 1 (pos 37))) 0 ≡ refused 7)
-    × (childOf 0 1 (nodeWith 0 0 zeroAt (fin true 1 (pos 36))) 4 ≡ refused 8)
-    × (childOf 0 1 (nodeWith 0 0 zeroAt (fin true 1 (pos 36))) 0 ≡ refused 5)
-    × (childOf 0 1 (nodeWith 0 0 zeroAt (fin true 1 (pos 2))) 0 ≡ refused 5)
-unfolding numberOf inBounds origin neg _⊕_ thrice signed facing flipped rot rots far toggled letters strokeOf symbolOf symbolsOf move corner turnedFlavor cell cells final cornerSum candidate has tripleOf upper mirrored reversed wordOf expandOnce rowsOf fieldsOf lineOf linesOf Curves.childOf passes strokes drawing net tokenBytes letterOf tokenOf childrenOf met children offsetAfter offset leaves a5Text a5 axiomOf isBackward isShifted shifted named goodPosition goodNode spot node digitOf childCell below childOf ofInt toSigned
+    (childStepOf 6 0 (nodeWith 14 0 zeroAt zeroAt) 4 ≡ refused 1)
+    × (childStepOf 6 31 (nodeWith 14 0 zeroAt zeroAt) 4 ≡ refused 1)
+    × (childStepOf 6 30 (nodeWith 14 0 zeroAt zeroAt) 4 ≡ refused 2)
+    × (childStepOf 0 1 (nodeWith 14 0 zeroAt zeroAt) 4 ≡ refused 7)
+    × (childStepOf 0 1 (nodeWith 0 2 zeroAt zeroAt) 0 ≡ refused 7)
+    × (childStepOf 0 1 (nodeWith 0 0 nan zeroAt) 0 ≡ refused 7)
+    × (childStepOf 0 1 (nodeWith 0 0 (inf true) zeroAt) 0 ≡ refused 7)
+    × (childStepOf 0 1 (nodeWith 0 0 (fin true 0 (pos 0)) zeroAt) 0 ≡ refused 7)
+    × (childStepOf 0 1 (nodeWith 0 0 zeroAt (fin false 1 (pos 1))) 0 ≡ refused 7)
+    × (childStepOf 0 1 (nodeWith 0 0 zeroAt (fin true 1 (pos 37))) 0 ≡ refused 7)
+    × (childStepOf 0 1 (nodeWith 0 0 zeroAt (fin true 1 (pos 36))) 4 ≡ refused 8)
+    × (childStepOf 0 1 (nodeWith 0 0 zeroAt (fin true 1 (pos 36))) 0 ≡ refused 5)
+    × (childStepOf 0 1 (nodeWith 0 0 zeroAt (fin true 1 (pos 2))) 0 ≡ refused 5)
+unfolding numberOf inBounds origin neg _⊕_ thrice signed facing flipped rot rots far toggled letters strokeOf symbolOf symbolsOf move corner turnedFlavor cell cells final cornerSum candidate hasCornerSum tripleOf upper mirrored reversed wordOf expandOnce rowsOf fieldsOf lineOf linesOf Curves.ruleSymbol passes strokes drawing net tokenBytes letterOf tokenOf ruleSymbols childrenAlong children offsetAfter offset leaves a5Text a5 axiomMotif axiomOf isBackward isShifted placeFrom curvePlace movedBy shifted named goodPosition goodNode nodeStart node childCell below stepTo childStepOf ofInt toSigned
 refused-steps = (refl, refl, refl, refl, refl, refl, refl, refl, refl, refl, refl, refl, refl)

@@ -1,35 +1,35 @@
--- The node below a cell: where the descent by all of a position's digits ends, and what a position that is told says of its arguments.
--- Assumes nothing.
+-- The node below a cell: what a position that is told says of its arguments, and where the descent by all of its digits ends.
 use mathlib.Core.Path.{_≡_, refl, sym, ap, _∙_, subst}
-use mathlib.Core.Bool.{Bool, true, false, cond}
-use Prim.Native.Nat.{ℕ, _+_, _-_, _*_, _/_, _%_, _^_, _<_, _≤_}
+use mathlib.Core.Bool.{Bool, true, false, not}
+use Prim.Native.Nat.{ℕ, _*_, _/_, _^_, _<_, _≤_}
 use native.Mathlib.Omega.{arith}
-use native.Mathlib.Decide.{decLt}
 use native.Mathlib.Nat as N
-use lib.Dec.{eqb}
-use lib.IntN.{ℤ, natAbs}
-use borrow.Author.Tests.{le-ltb, lt-ltb}
+use borrow.Author.Tests.{ltb-false, not-false}
+use lib.Dec.{ltb}
 use mir.Syntax.{w64}
-use mir.Val.{Fits, toZ, ofZ}
-use Rattle.whole.proofs.View.{v-abs, kept}
+use mir.Val.{Fits}
 use Rattle.triple.specs.declared.Triple.{Triple}
+use Rattle.triple.specs.declared.orientation.Recipe.{Recipe}
+use Rattle.triple.specs.declared.refusal.Refusal.{Refusal}
 use Rattle.triple.specs.declared.refusal.Refusal.the-variants as Is
-use Rattle.triple.specs.Refusals.{told, refused, numberOf}
+use Rattle.triple.specs.Refusals.{Told, told, refused, numberOf, refuse}
+use Rattle.triple.specs.Domain.{greatestResolution, greatestOrientation, positionCount}
+use Rattle.triple.specs.Orientations.{recipeOf, placeFrom, curvePlace}
 use Rattle.triple.specs.Triples.{goodSum, inBounds}
-use Rattle.turtle.specs.Plane.{ab}
-use Rattle.nodes.specs.declared.Node.{Node}
+use Rattle.triple.proofs.RefusalLaws.{passed}
+use Rattle.triple.proofs.OrientationLaws.{place-small, place-is, motif-fits}
 use Rattle.lsystem.specs.declared.Position.{Position}
-use Rattle.nodes.specs.declared.descent.Place.{Place}
-use Rattle.lsystem.specs.Cells.{isBackward, placeOf, positionOf}
-use Rattle.nodes.specs.Descents.{descended, atOrigin}
-use Rattle.lsystem.specs.Walks.{axiomState}
-use Rattle.nodes.specs.Nodes.{node, nodeAt, nodeOf}
-use Rattle.nodes.specs.Reach.{Near}
-use Rattle.lsystem.proofs.Numbering.{numbers, position-good}
-use Rattle.turtle.proofs.CornerLaws.{pair-is}
+use Rattle.lsystem.specs.declared.lookup.PositionAnswer.{PositionAnswer}
+use Rattle.lsystem.specs.Answers.{saidPosition}
+use Rattle.lsystem.specs.Cells.{positionOf}
 use Rattle.lsystem.proofs.CellCode.{axiom-state-small}
-use Rattle.nodes.proofs.DescentLaws.{end-near}
-use Rattle.nodes.proofs.NodeWalk.{nodeOfPlace, node-is}
+use Rattle.lsystem.proofs.Numbering.{numbers}
+use Rattle.nodes.specs.declared.Node.{Node}
+use Rattle.nodes.specs.declared.descent.Place.{Place}
+use Rattle.nodes.specs.Nodes.{nodeAt, nodeOf}
+use Rattle.nodes.specs.Inside.Descents.{descended, atOrigin, nodeOfPlace, Exact}
+use Rattle.nodes.proofs.DescentLaws.{room-wider, room-exact, end-room}
+use Rattle.nodes.proofs.NodeWalk.{node-is}
 
 -- ---- a position that is told
 pub record Asked (o r s : ℕ) : Type 0 where
@@ -40,69 +40,65 @@ pub record Asked (o r s : ℕ) : Type 0 where
 same : {p q : Position} → told p ≡ told q → p .s ≡ q .s
 same {p} {q} e = let z : p ≡ q = cc in ap (λ (p : Position). p .s) z
 
-pub never : {A : Type 0} {n : ℕ} {a : A} {B : Type 0} → refused n ≡ told a → B
-never {A} {n} {a} {B} e = let z : _≡_ {A = ℕ} 0 1 = cc in let y : ⊥ = omega arith in absurd y
-
 pub told-asked : (o r : ℕ) (t : Triple) (p : Position) → positionOf o r t ≡ told p → Asked o r (p .s)
 unfolding positionOf
-told-asked o r t p e = elim (decLt 30 r) [
-  | yes h ↦ never {n = numberOf Is.Resolution} (sym (simp (lt-ltb 30 r h)) ∙ e)
-  | no h ↦ (let k : r ≤ 30 = omega arith in elim (decLt 5 o) [
-    | yes l ↦ never {n = numberOf Is.Orientation} (sym (simp (le-ltb 30 r k, lt-ltb 5 o l)) ∙ e)
-    | no l ↦ (let m : o ≤ 5 = omega arith in bound k m (goodSum t) (inBounds r t) refl refl)
-  ])
-]
-  where
-    bound : r ≤ 30 → o ≤ 5 → (g b : Bool) → goodSum t ≡ g → inBounds r t ≡ b → Asked o r (p .s)
-    bound k m false b eg eb = never {n = numberOf Is.Sum} (sym (simp (le-ltb 30 r k, le-ltb 5 o m, eg)) ∙ e)
-    bound k m true false eg eb = never {n = numberOf Is.Bounds} (sym (simp (le-ltb 30 r k, le-ltb 5 o m, eg, eb)) ∙ e)
-    bound k m true true eg eb =
-        let n = numbers o r m k in
-        record { orientation = m; resolution = k; position = subst (λ s. s < 4 ^ r) (same (sym (position-good o r m k t eb ∙ n .finds t eb) ∙ e)) (n .small t eb) }
+told-asked o r t p e =
+    let deep = passed (ltb greatestResolution r) Is.Resolution e in
+    let unoriented = passed (ltb greatestOrientation o) Is.Orientation (deep .1) in
+    let odd = passed (not (goodSum t)) Is.Sum (unoriented .1) in
+    let outside = passed (not (inBounds r t)) Is.Bounds (odd .1) in
+    let k = ltb-false 30 r (deep .0) in
+    let h = ltb-false 5 o (unoriented .0) in
+    let b = not-false (inBounds r t) (outside .0) in
+    let n = numbers o r h k in
+    record { orientation = h; resolution = k; position = subst (λ s. s < 4 ^ r) (same (sym (n .finds t b) ∙ outside .1)) (n .small t b) }
 
-size : (x : ℤ) → (natAbs x + 16) * 2 ^ 0 ≤ 2 ^ 34 → natAbs x ≤ 2 ^ 34
-size x h = omega arith
-
--- what `Node::new` asks
-pub near-asked : (p : Place) → Near 0 p → (p .state % 2 ≤ 1) × ((natAbs (toZ w64 (ofZ w64 (p .a))) ≤ 2 ^ 38) × (natAbs (toZ w64 (ofZ w64 (p .b))) ≤ 2 ^ 38))
-near-asked p n =
-    let a = size (p .a) (n .a) in
-    let b = size (p .b) (n .b) in
-    (omega arith, (rw (kept w64 refl (v-abs (p .a) (2 ^ 34) a) tt) (omega (arith, a)), rw (kept w64 refl (v-abs (p .b) (2 ^ 34) b) tt) (omega (arith, b))))
-
--- ---- a place, and four times it
-module _ (o r s place cells : ℕ) (b : Bool) (k : r ≤ 30) (l : s < 4 ^ r) (eb : b ≡ isBackward o) (ec : cells ≡ 4 ^ r) (e : place ≡ cond b (cells - 1 - s) s) where
-  place-is : place ≡ placeOf o r s
-  unfolding placeOf
-  place-is = e ∙ ap (λ b. cond b (cells - 1 - s) s) eb ∙ ap (λ n. cond (isBackward o) (n - 1 - s) s) ec
-
-  pub fours-fit : Fits w64 (4 * place)
-  fours-fit =
-      let p : 4 ^ r ≤ 4 ^ 30 = N.pow-le-pow-right {n = 4} (omega arith) {i = r} {j = 30} k in
-      record { fits = omega (arith, e, ec, p, side b) }
-    where
-      side : (b : Bool) → cond b (cells - 1 - s) s ≤ cells + s
-      side true = omega arith
-      side false = omega arith
-
-  fours-back : 4 * place / 4 ≡ placeOf o r s
-  fours-back = sym (omega arith) ∙ place-is
-
-  -- where the descent by the digits of a place ends
-  pub below-is : o ≤ 5 → (state : ℕ) (p : Place) → state ≡ axiomState o → p ≡ descended r (4 * place) (atOrigin state)
-      → node (p .state / 2) (eqb (p .state % 2) 1) (ab (toZ w64 (ofZ w64 (p .a))) (toZ w64 (ofZ w64 (p .b)))) ≡ nodeAt o r s
-  below-is h state p es ep =
-      let n = end-near state r (4 * place) p (subst (λ k. k < 28) (sym es) (axiom-state-small o h)) k ep in
-      let a = kept w64 refl (v-abs (p .a) (2 ^ 34) (size (p .a) (n .a))) tt in
-      let b = kept w64 refl (v-abs (p .b) (2 ^ 34) (size (p .b) (n .b))) tt in
-      ap (node _ _) (pair-is a b) ∙ ap nodeOfPlace (ep ∙ ap (λ k. descended r (4 * place) (atOrigin k)) es) ∙ sym (node-is o h r s (4 * place) k l fours-back)
-
--- ---- the answer
-module _ (o r : ℕ) (t : Triple) where
-  pub reached-told : (p : Position) (n : Node) → positionOf o r t ≡ told p → n ≡ nodeAt o r (p .s) → told (record { position = p; node = n }) ≡ nodeOf o r t
+module _ (o r : ℕ) (t : Triple) (a : PositionAnswer) (ea : saidPosition a ≡ positionOf o r t) where
+  pub reached-refused : {e : Refusal} → a ≡ PositionAnswer.Refused e → refused (numberOf e) ≡ nodeOf o r t
   unfolding nodeOf
-  reached-told p n e en = rw (e, en)
+  reached-refused m = rw (sym ea ∙ ap saidPosition m)
 
-  pub reached-refused : (k : ℕ) → positionOf o r t ≡ refused k → refused k ≡ nodeOf o r t
-  unfolding nodeOf
-  reached-refused k e = rw e
+  module _ {p : Position} (m : a ≡ PositionAnswer.At p) where
+    asked : Asked o r (p .s)
+    asked = told-asked o r t p (sym ea ∙ ap saidPosition m)
+
+    pub asked-resolution : r ≤ 30
+    asked-resolution = asked .resolution
+
+    pub asked-position : p .s < 4 ^ r
+    asked-position = asked .position
+
+    pub reached-told : {n : Node} → n ≡ nodeAt o r (p .s) → told (record { position = p; node = n }) ≡ nodeOf o r t
+    unfolding nodeOf
+    reached-told en = rw (sym ea ∙ ap saidPosition m, en)
+
+pub ruleset reaching = (asked-resolution, asked-position, reached-told, reached-refused)
+
+-- ---- the node below the cell that s names
+module _ (o r s : ℕ) (k : r ≤ 30) (l : s < 4 ^ r) {w : Recipe} (ew : w ≡ recipeOf o) where
+  pub start-small : 2 * w .motif < 28
+  unfolding recipeOf
+  start-small = rw ew (axiom-state-small o)
+
+  module _ {count : ℕ} (ec : count ≡ positionCount r) {place : ℕ} (e : place ≡ placeFrom (w .backward) count s) where
+    on-curve : place ≡ curvePlace o r s
+    on-curve = place-is o ew r s k ec e
+
+    pub fours-fit : Fits w64 (4 * place)
+    fours-fit =
+        let p : 4 ^ r ≤ 4 ^ 30 = N.pow-le-pow-right {n = 4} (omega arith) {i = r} {j = 30} k in
+        record { fits = omega (arith, p, on-curve, place-small o r s l) }
+
+    module _ {p : Place} (ep : p ≡ descended r (4 * place) (atOrigin (2 * w .motif))) where
+      pub end-exact : Exact p
+      end-exact = rw ep (room-exact _ (room-wider _ 0 (end-room (2 * w .motif) r (4 * place) start-small k)))
+
+      pub below-is : {n : Node} → n ≡ nodeOfPlace p → n ≡ nodeAt o r s
+      unfolding recipeOf
+      below-is en =
+          let fours : 4 * place / 4 ≡ curvePlace o r s = sym (omega arith) ∙ on-curve in
+          en
+          ∙ ap nodeOfPlace (ep ∙ ap (λ (w : Recipe). descended r (4 * place) (atOrigin (2 * w .motif))) ew)
+          ∙ sym (node-is o r s (4 * place) k l fours)
+
+pub ruleset arriving = (motif-fits, start-small, fours-fit, end-exact, below-is)

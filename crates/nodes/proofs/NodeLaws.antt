@@ -1,8 +1,7 @@
--- Nodes: which are good, and their parts as the tables have them.
--- Assumes nothing.
-use mathlib.Core.Path.{_≡_, refl, sym, _∙_}
+-- Nodes: which are good, and where they stand in the descent.
+use mathlib.Core.Path.{_≡_, refl, ap, _∙_}
 use mathlib.Core.Bool.{Bool, true, false, not, _&&_}
-use Prim.Native.Nat.{ℕ, zero, suc, _+_, _*_, _^_, _≤_, _<_}
+use Prim.Native.Nat.{ℕ, zero, suc, _+_, _*_, _/_, _%_, _^_, _≤_, _<_}
 use native.Mathlib.Omega.{arith}
 use native.Mathlib.Nat as N
 use borrow.Author.Tests.{le-leb, lt-leb, not-true, not-false}
@@ -11,16 +10,19 @@ use lib.IntN.{ℤ, natAbs}
 use lib.Ieee.{Float, binary64, ofInt, toSigned, inFloat, inSigned}
 use lib.Ieee.Casts.{toSigned-in}
 use mir.Syntax.{w64}
-use mir.Val.{Fits, SFits, toZ, ofZ}
+use mir.Val.{Fits, SFits}
 use mir.ValLaws.{toZ-ofZ}
 use Rattle.whole.proofs.Bools.{both-left, both-right, from-true}
 use Rattle.whole.proofs.Floats.{int-in}
-use Rattle.turtle.specs.declared.AB.{AB}
+use Rattle.whole.proofs.View.{rd, v-abs, kept}
 use Rattle.turtle.specs.Plane.{ab}
+use Rattle.turtle.proofs.CornerLaws.{pair-is}
 use Rattle.tables.specs.Table.{bit, stateOf}
 use Rattle.nodes.specs.declared.Node.{Node}
-use Rattle.nodes.specs.Nodes.{goodPosition, goodNode, isFlipped, spot, node}
-use Rattle.nodes.proofs.NodePositions.{Position, position-of}
+use Rattle.nodes.specs.declared.descent.Place.{Place}
+use Rattle.nodes.specs.Nodes.{goodPosition, goodNode, isFlipped, nodeStart, node}
+use Rattle.nodes.specs.Inside.Descents.{placeOfNode, nodeOfPlace, Room, Exact}
+use Rattle.nodes.proofs.NodePositions.{GoodPosition, position-of}
 
 -- ---- the tests of a node, in their order
 module _ (n : Node) where
@@ -44,26 +46,12 @@ module _ (n : Node) where
 
 pub ruleset goodness = (motif-high, flip-high, bad-first, good-first)
 
--- ---- a node is made
-pub bit-is : (f : ℕ) → f ≤ 1 → bit (eqb f 1) ≡ f
-bit-is zero h = refl
-bit-is (suc zero) h = refl
-bit-is (suc (suc f)) h = let none : ⊥ = omega arith in absurd none
-
-module _ (a : ℤ) (f : SFits w64 a) (h : natAbs a ≤ 2 ^ 38) where
-  pub made-in : T (inFloat binary64 (toZ w64 (ofZ w64 a)))
-  made-in = rw (toZ-ofZ w64 a f) (int-in a (N.le-trans h (lit≤ tt)))
-
-pub made : (m f : ℕ) (a b : ℤ) → f ≤ 1 → SFits w64 a → SFits w64 b → (n : Node) → n ≡ record { motif = m; flip = f; «pos_a» = ofInt binary64 (toZ w64 (ofZ w64 a)); «pos_b» = ofInt binary64 (toZ w64 (ofZ w64 b)) } → n ≡ node m (eqb f 1) (ab a b)
-unfolding node
-made m f a b h fa fb n e = e ∙ rw (bit-is f h, toZ-ofZ w64 a fa, toZ-ofZ w64 b fb)
-
 -- ---- what a good node has
 pub record Good (n : Node) : Type 0 where
   pub motif : n .motif ≤ 13
   pub flip : n .flip ≤ 1
-  pub a : Position (n .«pos_a»)
-  pub b : Position (n .«pos_b»)
+  pub a : GoodPosition (n .«pos_a»)
+  pub b : GoodPosition (n .«pos_b»)
 
 pub good-of : (n : Node) → goodNode n ≡ true → Good n
 unfolding goodNode
@@ -82,7 +70,25 @@ good-of n e =
       b = position-of (n .«pos_b») (both-right (m && f && a) b t);
     }
 
--- ---- its state and its spot
+-- ---- a node is made
+bit-is : (f : ℕ) → f ≤ 1 → bit (eqb f 1) ≡ f
+bit-is zero h = refl
+bit-is (suc zero) h = refl
+bit-is (suc (suc f)) h = let none : ⊥ = omega arith in absurd none
+
+pub made-in : (a : ℤ) → SFits w64 a → natAbs a ≤ 2 ^ 38 → T (inFloat binary64 (rd w64 a))
+made-in a f h = rw (toZ-ofZ w64 a f) (int-in a (N.le-trans h (lit≤ tt)))
+
+pub made : (m f : ℕ) (a b : ℤ) → f ≤ 1 → SFits w64 a → SFits w64 b → (n : Node) → n ≡ record { motif = m; flip = f; «pos_a» = ofInt binary64 (rd w64 a); «pos_b» = ofInt binary64 (rd w64 b) } → n ≡ node m (eqb f 1) (ab a b)
+unfolding node
+made m f a b h fa fb n e = e ∙ rw (bit-is f h, toZ-ofZ w64 a fa, toZ-ofZ w64 b fb)
+
+pub ruleset making = (made-in, made)
+
+-- ---- the place of a good node
+cut-kept : (x : Float) → rd w64 (toSigned 63 x) ≡ toSigned 63 x
+cut-kept x = toZ-ofZ w64 (toSigned 63 x) (record { sfits = toSigned-in 63 x })
+
 module _ (n : Node) (g : goodNode n ≡ true) where
   pub motif-fits : Fits w64 (2 * n .motif)
   motif-fits = record { fits = omega (arith, good-of n g .motif) }
@@ -90,33 +96,48 @@ module _ (n : Node) (g : goodNode n ≡ true) where
   pub state-fits : Fits w64 (2 * n .motif + n .flip)
   state-fits = record { fits = omega (arith, good-of n g .motif, good-of n g .flip) }
 
-  pub state-is : 2 * n .motif + n .flip ≡ stateOf (n .motif) (isFlipped n)
+  state-is : 2 * n .motif + n .flip ≡ stateOf (n .motif) (isFlipped n)
   unfolding stateOf
   state-is = rw (bit-is (n .flip) (good-of n g .flip))
 
-  pub state-small : (k : ℕ) → k ≡ stateOf (n .motif) (isFlipped n) → k < 28
-  state-small k e = omega (arith, good-of n g .motif, good-of n g .flip, e ∙ sym state-is)
+  pub exact-a : T (inSigned binary64 63 (n .«pos_a»))
+  exact-a = good-of n g .a .exact
 
-  pub spot-exact-a : T (inSigned binary64 63 (n .«pos_a»))
-  spot-exact-a = good-of n g .a .exact
+  pub exact-b : T (inSigned binary64 63 (n .«pos_b»))
+  exact-b = good-of n g .b .exact
 
-  pub spot-exact-b : T (inSigned binary64 63 (n .«pos_b»))
-  spot-exact-b = good-of n g .b .exact
+  pub place-read : _≡_ {A = Place} (record { a = rd w64 (toSigned 63 (n .«pos_a»)); b = rd w64 (toSigned 63 (n .«pos_b»)); state = 2 * n .motif + n .flip }) (placeOfNode n)
+  unfolding nodeStart
+  place-read = λ i. record { a = cut-kept (n .«pos_a») i; b = cut-kept (n .«pos_b») i; state = state-is i }
 
-  module _ (p : AB) (e : p ≡ spot n) where
-    pub spot-small-a : natAbs (p .a) ≤ 2 ^ 36
-    unfolding spot
-    spot-small-a = rw e (good-of n g .a .small)
+  node-room : Room (2 ^ 37) 0 (placeOfNode n)
+  unfolding nodeStart
+  node-room = record {
+    state = omega (arith, good-of n g .motif, good-of n g .flip, state-is);
+    a = omega (arith, good-of n g .a .small);
+    b = omega (arith, good-of n g .b .small);
+  }
 
-    pub spot-small-b : natAbs (p .b) ≤ 2 ^ 36
-    unfolding spot
-    spot-small-b = rw e (good-of n g .b .small)
+  pub place-room : {p : Place} → p ≡ placeOfNode n → Room (2 ^ 37) 0 p
+  place-room e = rw e node-room
 
-cut-kept : (x : Float) → toZ w64 (ofZ w64 (toSigned 63 x)) ≡ toSigned 63 x
-cut-kept x = toZ-ofZ w64 (toSigned 63 x) (record { sfits = toSigned-in 63 x })
+pub ruleset placing = (motif-fits, state-fits, exact-a, exact-b, place-read)
 
-pub spot-made : (n : Node) (p : AB) → p ≡ ab (toZ w64 (ofZ w64 (toSigned 63 (n .«pos_a»)))) (toZ w64 (ofZ w64 (toSigned 63 (n .«pos_b»)))) → p ≡ spot n
-unfolding spot
-spot-made n p e = e ∙ rw (cut-kept (n .«pos_a»), cut-kept (n .«pos_b»))
+-- ---- the node at a place
+module _ (p : Place) (x : Exact p) where
+  read-a : rd w64 (p .a) ≡ p .a
+  read-a = kept w64 refl (v-abs (p .a) (2 ^ 38) (x .a)) tt
 
-pub ruleset parts = (motif-fits, state-fits, state-is, state-small, spot-exact-a, spot-exact-b, spot-made)
+  read-b : rd w64 (p .b) ≡ p .b
+  read-b = kept w64 refl (v-abs (p .b) (2 ^ 38) (x .b)) tt
+
+  pub exact-small-a : natAbs (rd w64 (p .a)) ≤ 2 ^ 38
+  exact-small-a = rw read-a (x .a)
+
+  pub exact-small-b : natAbs (rd w64 (p .b)) ≤ 2 ^ 38
+  exact-small-b = rw read-b (x .b)
+
+  pub node-at : {n : Node} → n ≡ node (p .state / 2) (eqb (p .state % 2) 1) (ab (rd w64 (p .a)) (rd w64 (p .b))) → n ≡ nodeOfPlace p
+  node-at e = e ∙ ap (node (p .state / 2) (eqb (p .state % 2) 1)) (pair-is read-a read-b)
+
+pub ruleset standing = (exact-small-a, exact-small-b, node-at)

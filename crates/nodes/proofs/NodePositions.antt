@@ -1,5 +1,4 @@
 -- A node's positions: which floats are good, by the whole number that each is cut to, and that casts lose nothing of them.
--- Assumes nothing.
 use mathlib.Core.Path.{_≡_, refl, sym, ap, _∙_}
 use mathlib.Core.Bool.{Bool, true, false, not, _&&_, cond, true≢false}
 use Prim.Native.Nat.{ℕ, zero, suc, _*_, _/_, _%_, _^_, _≤_, _<_}
@@ -70,7 +69,7 @@ int-position v h = value-position (ofInt binary64 v) (isBelow v) (natAbs v) (int
     above (negsuc n) e = N.zero-lt-suc n
 
 -- ---- what a good position is
-pub record Position (x : Float) : Type 0 where
+pub record GoodPosition (x : Float) : Type 0 where
   pub ranged : T (within 36 x)
   pub exact : T (inSigned binary64 63 x)
   pub small : natAbs (toSigned 63 x) ≤ 2 ^ 36
@@ -85,7 +84,7 @@ position-exact s m e flat small unsigned =
     side true q h = le-leb q (2 ^ 63) (N.le-trans h (lit≤ tt))
     side false q h = lt-ltb q (2 ^ 63) (N.lt-of-le-of-lt h (lit< tt))
 
-pub position-of : (x : Float) → T (goodPosition x) → Position x
+pub position-of : (x : Float) → T (goodPosition x) → GoodPosition x
 unfolding goodPosition within
 position-of nan t = absurd t
 position-of (inf s) t = absurd t

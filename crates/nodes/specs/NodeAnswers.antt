@@ -1,9 +1,9 @@
 -- What each answer about nodes says: its values, or its refusal's number.
 use Prim.Native.Nat.{ℕ}
-use lib.Dec.{ltb}
 use Rattle.triple.specs.declared.refusal.Refusal.the-variants as Is
-use Rattle.triple.specs.Refusals.{Told, told, refused, numberOf, refuse}
-use Rattle.lsystem.specs.declared.Named.{Named}
+use Rattle.triple.specs.Refusals.{Told, told, refused, numberOf}
+use Rattle.triple.specs.Domain.{inOrientation}
+use Rattle.lsystem.specs.declared.cell.Cell.{Cell}
 use Rattle.nodes.specs.declared.Node.{Node}
 use Rattle.nodes.specs.declared.ChildStep.{ChildStep}
 use Rattle.nodes.specs.declared.NodeAnswer.{NodeAnswer}
@@ -15,7 +15,7 @@ use Rattle.nodes.specs.Nodes.{axiomNode}
 
 -- THE NODE of the axiom of the orientation o
 unfoldable pub axiomNodeOf : ℕ → Told Node
-axiomNodeOf o = refuse (ltb 5 o) Is.Orientation (told (axiomNode o))
+axiomNodeOf o = inOrientation o (told (axiomNode o))
 
 abbrev pub saidNode : NodeAnswer → Told Node
 saidNode (NodeAnswer.Node n) = told n
@@ -29,6 +29,6 @@ abbrev pub saidChild : ChildAnswer → Told ChildStep
 saidChild (ChildAnswer.Child s) = told s
 saidChild (ChildAnswer.Refused e) = refused (numberOf e)
 
-abbrev pub saidBounded : Bounded → Told Named
+abbrev pub saidBounded : Bounded → Told Cell
 saidBounded (Bounded.In c) = told c
 saidBounded Bounded.Out = refused (numberOf Is.Bounds)

@@ -2,28 +2,32 @@
 // are f64: they are tested whole from their bits, worked on as i64 and returned by exact casts. Which
 // position names a cell is `lsystem`'s; the table that a step reads is `a5`'s.
 ghost use mathlib.Core.Path.{_≡_};
-ghost use mathlib.Core.Bool.{true, cond};
-ghost use Prim.Native.Nat.{_-_, _^_, _<_, _≤_};
+ghost use mathlib.Core.Bool.{true};
+ghost use Prim.Native.Nat.{_^_, _<_, _≤_};
 ghost use lib.Dec.{eqb};
-ghost use lib.IntN.{pos, natAbs};
+ghost use lib.IntN.{natAbs};
+ghost use Rattle.triple.specs.Orientations.{movedBy};
 ghost use Rattle.turtle.specs.Plane.{ab};
-ghost use Rattle.tables.specs.Table.{stateOf};
-ghost use Rattle.lsystem.specs.Cells.{flavorIn};
-ghost use Rattle.nodes.specs.Descents.{movedBy, namedBy};
-ghost use Rattle.nodes.specs.Nodes.{goodPosition, goodNode, isFlipped, spot, node, childCell, below, bounded, childOf, nodeAt, nodeOf};
+ghost use Rattle.nodes.specs.Nodes.{goodPosition, goodNode, node, bounded, stepTo, childStepOf, nodeAt, nodeOf};
 ghost use Rattle.nodes.specs.NodeAnswers.{axiomNodeOf, saidNode, saidReached, saidChild, saidBounded};
+ghost use Rattle.nodes.specs.Inside.Descents.{placeOfNode, nodeOfPlace, namedBy, Exact};
+use crate::descent::Drawn;
+use crate::descent::Place;
 use crate::descent::descend;
-use crate::words::leaf_of;
-use crate::words::step_of;
-use lsystem::Named;
 use lsystem::Position;
-use lsystem::cell::recipe_of;
+use lsystem::cell::Cell;
 use lsystem::lookup::PositionAnswer;
 use lsystem::lookup::triple_to_s;
 use triple::Triple;
+use triple::domain::DomainAnswer;
+use triple::domain::domain_of;
+use triple::domain::position_count;
+use triple::domain::row_count;
 use triple::in_bounds_wide;
+use triple::orientation::GREATEST_ORIENTATION;
+use triple::orientation::place_from;
+use triple::orientation::recipe_of;
 use triple::refusal::Refusal;
-use turtle::AB;
 use turtle::corner::TripleAnswer;
 
 pub mod descent;
@@ -41,7 +45,7 @@ pub struct Node {
 
 // What a child step answers: the child's cell, and the node below it.
 pub struct ChildStep {
-    pub cell: Named,
+    pub cell: Cell,
     pub node: Node,
 }
 
@@ -49,12 +53,6 @@ pub struct ChildStep {
 pub struct Reached {
     pub position: Position,
     pub node: Node,
-}
-
-// A cell as it is drawn: its corner sum and its flavor.
-struct Drawn {
-    sum: AB,
-    flavor: u8,
 }
 
 pub enum NodeAnswer {
@@ -92,9 +90,9 @@ impl Node {
         }
     }
 
-    // The node of a motif and flip where a walk has arrived. Its positions may be beyond the limit, as
-    // those below a good node can be, and are exact all the same.
-    fn at(motif: u64, flip: u8, a: i64, b: i64) -> Self
+    // The node of whole positions. They may be beyond the limit, as those below a good node can be, and
+    // are exact all the same.
+    fn whole(motif: u64, flip: u8, a: i64, b: i64) -> Self
         requires { ⌜ (flip ≤ 1) × ((natAbs a ≤ 2 ^ 38) × (natAbs b ≤ 2 ^ 38)) ⌝ }
         ensures { λ n. ⌜ n ≡ node motif (eqb flip 1) (ab a b) ⌝ }
     {
@@ -119,16 +117,14 @@ impl Node {
     // The child with a digit of the curve, that is the last digit of its position: its cell at the
     // resolution, which is the child's, and the node below it.
     pub fn child(self, digit: u8, resolution: u8, orientation: u8) -> ChildAnswer
-        ensures { λ a. ⌜ saidChild a ≡ childOf orientation resolution self digit ⌝ }
+        ensures { λ a. ⌜ saidChild a ≡ childStepOf orientation resolution self digit ⌝ }
     {
         if resolution == 0 {
             return ChildAnswer::Refused(Refusal::Resolution);
         }
-        if resolution > Triple::GREATEST_RESOLUTION {
-            return ChildAnswer::Refused(Refusal::Resolution);
-        }
-        if orientation > 5 {
-            return ChildAnswer::Refused(Refusal::Orientation);
+        let domain = domain_of(orientation, resolution);
+        if let DomainAnswer::Refused(e) = domain {
+            return ChildAnswer::Refused(e);
         }
         if !self.is_good() {
             return ChildAnswer::Refused(Refusal::Node);
@@ -137,57 +133,45 @@ impl Node {
             return ChildAnswer::Refused(Refusal::Digit);
         }
         let recipe = recipe_of(orientation);
-        let d = digit_from(recipe.backward, digit);
-        let found = cell_within(recipe.shifted, resolution, self.child_cell(d));
+        let d = place_from(recipe.backward, 4, digit as u64);
+        self.step_to(d, resolution, orientation)
+    }
+
+    // The child at a place of the node's four.
+    fn step_to(self, d: u64, resolution: u8, orientation: u8) -> ChildAnswer
+        requires { ⌜ (goodNode self ≡ true) × ((d < 4) × ((0 < resolution) × (resolution ≤ 30))) ⌝ }
+        ensures { λ a. ⌜ saidChild a ≡ stepTo orientation resolution self d ⌝ }
+    {
+        let recipe = recipe_of(orientation);
+        let at = self.place();
+        let found = cell_within(recipe.shifted, resolution, at.leaf(d));
         let Bounded::In(cell) = found else {
             return ChildAnswer::Refused(Refusal::Bounds);
         };
         ChildAnswer::Child(ChildStep {
             cell,
-            node: self.below(d),
+            node: Self::at(at.down(d)),
         })
     }
 
-    fn state(self) -> u64
+    // Where a good node stands in the descent.
+    fn place(self) -> Place
         requires { ⌜ goodNode self ≡ true ⌝ }
-        ensures { λ k. ⌜ k ≡ stateOf (self .motif) (isFlipped self) ⌝ }
+        ensures { λ p. ⌜ p ≡ placeOfNode self ⌝ }
     {
-        2 * self.motif + self.flip as u64
-    }
-
-    fn spot(self) -> AB
-        requires { ⌜ goodNode self ≡ true ⌝ }
-        ensures { λ p. ⌜ p ≡ spot self ⌝ }
-    {
-        AB::new(self.pos_a as i64, self.pos_b as i64)
-    }
-
-    // The leaf of a digit, where the node is.
-    fn child_cell(self, digit: u64) -> Drawn
-        requires { ⌜ (goodNode self ≡ true) × (digit < 4) ⌝ }
-        ensures { λ c. ⌜ (c .sum ≡ childCell self digit .sum) × (c .flavor ≡ flavorIn (childCell self digit .flavor)) ⌝ }
-    {
-        let at = self.spot();
-        let leaf = leaf_of(self.state(), digit);
-        Drawn {
-            sum: AB::new(3 * at.a + leaf.a, 3 * at.b + leaf.b),
-            flavor: leaf.flavor,
+        Place {
+            a: self.pos_a as i64,
+            b: self.pos_b as i64,
+            state: 2 * self.motif + self.flip as u64,
         }
     }
 
-    // One level down, the position doubles.
-    fn below(self, digit: u64) -> Self
-        requires { ⌜ (goodNode self ≡ true) × (digit < 4) ⌝ }
-        ensures { λ n. ⌜ n ≡ below self digit ⌝ }
+    // The node that stands at a place of the descent.
+    fn at(p: Place) -> Self
+        requires { ⌜ Exact p ⌝ }
+        ensures { λ n. ⌜ n ≡ nodeOfPlace p ⌝ }
     {
-        let at = self.spot();
-        let step = step_of(self.state(), digit);
-        Self::at(
-            step.state / 2,
-            (step.state % 2) as u8,
-            2 * at.a + step.a,
-            2 * at.b + step.b,
-        )
+        Self::whole(p.state / 2, (p.state % 2) as u8, p.a, p.b)
     }
 }
 
@@ -212,22 +196,11 @@ fn is_position(x: f64) -> bool
 pub fn axiom_node(orientation: u8) -> NodeAnswer
     ensures { λ a. ⌜ saidNode a ≡ axiomNodeOf orientation ⌝ }
 {
-    if orientation > 5 {
+    if orientation > GREATEST_ORIENTATION {
         return NodeAnswer::Refused(Refusal::Orientation);
     }
     let recipe = recipe_of(orientation);
-    NodeAnswer::Node(Node::at(recipe.state / 2, 0, 0, 0))
-}
-
-// A reversed curve reads every digit from the other end.
-fn digit_from(backward: bool, digit: u8) -> u64
-    requires { ⌜ digit ≤ 3 ⌝ }
-    ensures { λ d. ⌜ d ≡ cond backward (3 - digit) digit ⌝ }
-{
-    if backward {
-        return 3 - digit as u64;
-    }
-    digit as u64
+    NodeAnswer::Node(Node::whole(recipe.motif, 0, 0, 0))
 }
 
 // Three coordinates that may not fit an i32.
@@ -235,14 +208,6 @@ struct Wide {
     x: i64,
     y: i64,
     z: i64,
-}
-
-// 2^r, by which a shifted orientation moves its triples.
-fn side_of(resolution: u8) -> i64
-    requires { ⌜ resolution ≤ 30 ⌝ }
-    ensures { λ n. ⌜ n ≡ pos (2 ^ resolution) ⌝ }
-{
-    (1u64 << resolution) as i64
 }
 
 fn moved_wide(moves: bool, resolution: u8, t: Triple) -> Wide
@@ -253,10 +218,10 @@ fn moved_wide(moves: bool, resolution: u8, t: Triple) -> Wide
     let y = t.y as i64;
     let z = t.z as i64;
     if moves {
-        let side = side_of(resolution);
+        let rows = row_count(resolution);
         return Wide {
-            x: x - side,
-            y: y + side,
+            x: x - rows,
+            y: y + rows,
             z,
         };
     }
@@ -264,14 +229,14 @@ fn moved_wide(moves: bool, resolution: u8, t: Triple) -> Wide
 }
 
 enum Bounded {
-    In(Named),
+    In(Cell),
     Out,
 }
 
 // A drawn cell, if it is in bounds. Each whose corner sum has no triple is out of them.
 fn cell_within(moves: bool, resolution: u8, drawn: Drawn) -> Bounded
     requires { ⌜ (0 < resolution) × (resolution ≤ 30) ⌝ }
-    ensures { λ c. ⌜ saidBounded c ≡ bounded resolution (namedBy moves resolution (drawn .sum) (drawn .flavor)) ⌝ }
+    ensures { λ c. ⌜ saidBounded c ≡ bounded resolution (namedBy moves resolution drawn) ⌝ }
 {
     let sum = drawn.sum;
     let found = sum.to_triple();
@@ -285,7 +250,7 @@ fn cell_within(moves: bool, resolution: u8, drawn: Drawn) -> Bounded
     if !in_bounds_wide(x, y, z, resolution) {
         return Bounded::Out;
     }
-    Bounded::In(Named {
+    Bounded::In(Cell {
         triple: Triple::new(x as i32, y as i32, z as i32),
         flavor: drawn.flavor,
     })
@@ -306,25 +271,13 @@ pub fn triple_to_curve_node(orientation: u8, resolution: u8, t: Triple) -> Reach
     }
 }
 
-// s, or the place as far from the other end of 4^r.
-fn place_from(backward: bool, resolution: u8, s: u64) -> u64
-    requires { ⌜ (resolution ≤ 30) × (s < 4 ^ resolution) ⌝ }
-    ensures { λ p. ⌜ p ≡ cond backward (4 ^ resolution - 1 - s) s ⌝ }
-{
-    if backward {
-        return (1u64 << (2 * resolution)) - 1 - s;
-    }
-    s
-}
-
 // The node below the cell that s names. The descent reads the digits from the second on, so that
 // four times a place has all of the place's own.
 fn node_below(orientation: u8, resolution: u8, s: u64) -> Node
-    requires { ⌜ (orientation ≤ 5) × ((resolution ≤ 30) × (s < 4 ^ resolution)) ⌝ }
+    requires { ⌜ (resolution ≤ 30) × (s < 4 ^ resolution) ⌝ }
     ensures { λ n. ⌜ n ≡ nodeAt orientation resolution s ⌝ }
 {
     let recipe = recipe_of(orientation);
-    let place = place_from(recipe.backward, resolution, s);
-    let p = descend(recipe.state, resolution as u64, 4 * place);
-    Node::at(p.state / 2, (p.state % 2) as u8, p.a, p.b)
+    let place = place_from(recipe.backward, position_count(resolution), s);
+    Node::at(descend(2 * recipe.motif, resolution as u64, 4 * place))
 }

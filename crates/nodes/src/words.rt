@@ -2,10 +2,8 @@
 // What the words hold is read in `step_of` and `leaf_of`.
 ghost use mathlib.Core.Path.{_≡_};
 ghost use Prim.Native.Nat.{_≤_, _<_, _%_};
-ghost use lib.IntN.{pos};
-ghost use Rattle.tables.specs.Descent.{childAt, offsetAt, sumAt, flavorAt};
-ghost use Rattle.a5.specs.A5Table.{a5Table};
-ghost use Rattle.nodes.specs.A5Words.{stepWord, leafWord, spread};
+ghost use Rattle.nodes.specs.Inside.Words.{stepWord, leafWord, spread};
+ghost use Rattle.nodes.specs.Inside.Descents.{stepAt, leafAt};
 
 // Four children, each in 16 bits: state in 5, then offset a and offset b, each (offset + 16) / 4, in 4.
 fn step_word(state: u64) -> u64
@@ -105,7 +103,7 @@ fn spread(w: u64, least: u64) -> i64
 
 pub(crate) fn step_of(state: u64, digit: u64) -> Step
     requires { ⌜ (state < 28) × (digit < 4) ⌝ }
-    ensures { λ t. ⌜ (pos (t .state) ≡ childAt a5Table state digit) × ((t .a ≡ offsetAt a5Table state digit .a) × (t .b ≡ offsetAt a5Table state digit .b)) ⌝ }
+    ensures { λ t. ⌜ t ≡ stepAt state digit ⌝ }
 {
     let w = step_word(state) >> (16 * digit);
     Step {
@@ -117,7 +115,7 @@ pub(crate) fn step_of(state: u64, digit: u64) -> Step
 
 pub(crate) fn leaf_of(state: u64, digit: u64) -> Leaf
     requires { ⌜ (state < 28) × (digit < 4) ⌝ }
-    ensures { λ l. ⌜ (l .a ≡ sumAt a5Table state digit .a) × ((l .b ≡ sumAt a5Table state digit .b) × (pos (l .flavor) ≡ flavorAt a5Table state digit)) ⌝ }
+    ensures { λ l. ⌜ l ≡ leafAt state digit ⌝ }
 {
     let w = leaf_word(state) >> (10 * digit);
     Leaf {

@@ -1,12 +1,17 @@
 -- What a query finds, by what each operation answers; and a line's answer, by what its query finds.
--- Assumes nothing.
-use mathlib.Core.Path.{_≡_, sym, ap, _∙_, subst}
+use mathlib.Core.Path.{_≡_, sym, ap, subst, _∙_}
 use mathlib.Core.List.{List}
-use Prim.Native.Nat.{ℕ, _<_, _≤_}
-use borrow.Author.Tests.{le-ltb, lt-ltb}
+use Prim.Native.Nat.{ℕ}
 use lib.Ieee.{Float}
-use Rattle.triple.specs.declared.refusal.Refusal.the-variants as Is
+use Rattle.triple.specs.declared.Triple.{Triple}
+use Rattle.triple.specs.declared.domain.DomainAnswer.{DomainAnswer}
+use Rattle.triple.specs.declared.refusal.Refusal.{Refusal}
 use Rattle.triple.specs.Refusals.{Told, told, refused, numberOf, _>>=_}
+use Rattle.triple.specs.Domain.{domainOf}
+use Rattle.triple.specs.Answers.{saidDomain}
+use Rattle.triple.proofs.DomainLaws.{out-of-domain, in-domain}
+use Rattle.curve.specs.declared.PointAnswer.{PointAnswer}
+use Rattle.curve.specs.Answers.{saidPoint}
 use Rattle.curve.specs.Points.{pointOf}
 use Rattle.query.specs.declared.Query.{Query}
 use Rattle.query.specs.declared.Found.{Found}
@@ -22,20 +27,22 @@ module _ {A : Type 0} (made : A → Told Found) {given t : Told A} (answers : gi
   pub made-refused : {n : ℕ} → given ≡ refused n → refused n ≡ (t >>= made)
   made-refused e = rw (sym answers, e)
 
--- ---- a point: the tests that come before it
-module _ (o r : ℕ) (i j : Float) where
-  pub point-resolution : 30 < r → refused (numberOf Is.Resolution) ≡ answerOf (Query.Point o r i j)
+-- ---- a point: resolution and orientation are tested first, as a point has no position without them
+module _ (o r : ℕ) (i j : Float) {a : DomainAnswer} (ea : saidDomain a ≡ domainOf o r) where
+  pub point-outside : {e : Refusal} → a ≡ DomainAnswer.Refused e → refused (numberOf e) ≡ answerOf (Query.Point o r i j)
   unfolding answerOf
-  point-resolution h = rw (lt-ltb 30 r h)
+  point-outside m = out-of-domain o r a ea _ m
 
-  module _ (h : r ≤ 30) where
-    pub point-orientation : 5 < o → refused (numberOf Is.Orientation) ≡ answerOf (Query.Point o r i j)
+  module _ (m : a ≡ DomainAnswer.In) (p : PointAnswer) (ep : saidPoint p ≡ pointOf r i j) where
+    pub point-refused : {e : Refusal} → p ≡ PointAnswer.Refused e → refused (numberOf e) ≡ answerOf (Query.Point o r i j)
     unfolding answerOf
-    point-orientation l = rw (le-ltb 30 r h, lt-ltb 5 o l)
+    point-refused k = made-refused (pointFound o r) ep (ap saidPoint k) ∙ in-domain o r a ea m _
 
-    pub point-answered : o ≤ 5 → {x : Told Found} → x ≡ (pointOf r i j >>= pointFound o r) → x ≡ answerOf (Query.Point o r i j)
+    pub point-told : {t : Triple} → p ≡ PointAnswer.At t → {x : Told Found} → x ≡ pointFound o r t → x ≡ answerOf (Query.Point o r i j)
     unfolding answerOf
-    point-answered l p = rw (le-ltb 30 r h, le-ltb 5 o l) p
+    point-told k e = made-told (pointFound o r) ep (ap saidPoint k) e ∙ in-domain o r a ea m _
+
+pub ruleset points = (point-outside, point-refused, point-told)
 
 -- ---- a line
 module _ (line : List ℕ) {given : Told Query} (answers : given ≡ queryOf line) where

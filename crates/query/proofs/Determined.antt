@@ -1,25 +1,16 @@
 -- Each contract of this crate allows one result alone. What an answer says has a left inverse: so two answers that say the same are the same.
--- Assumes nothing.
 use mathlib.Core.Path.{_≡_, refl, sym, ap, _∙_}
 use mathlib.Core.List.{List}
 use Prim.Native.Nat.{ℕ}
-use lib.IntN.{ℤ}
-use lib.Ieee.{Float}
-use Rattle.triple.specs.Refusals.{Told, told, refused}
 use Rattle.triple.proofs.Determined.{one-to-one, determined, numbered, answerOf}
 use Rattle.query.specs.declared.QueryAnswer.{QueryAnswer}
 use Rattle.query.specs.declared.FoundAnswer.{FoundAnswer}
 use Rattle.query.specs.declared.print.PrintAnswer.{PrintAnswer}
 use Rattle.query.specs.declared.Query.{Query}
-use Rattle.query.specs.declared.number.ByteWord.{ByteWord}
-use Rattle.query.specs.declared.number.NaturalWord.{NaturalWord}
-use Rattle.query.specs.declared.number.IntegerWord.{IntegerWord}
-use Rattle.query.specs.declared.number.FloatWord.{FloatWord}
-use Rattle.query.specs.Numbers as Numbers
 use Rattle.query.specs.Lines.{queryOf, answerLine}
 use Rattle.query.specs.Queries as Queries
 use Rattle.query.specs.Prints.{foundText, printOf, afterPrint}
-use Rattle.query.specs.Answers.{saidQuery, saidFound, saidPrint, saidByte, saidNatural, saidInteger, saidFloat}
+use Rattle.query.specs.Answers.{saidQuery, saidFound, saidPrint}
 
 -- ---- the answers
 query-back : (a : QueryAnswer) → answerOf QueryAnswer.Query QueryAnswer.Refused (saidQuery a) ≡ a
@@ -42,39 +33,6 @@ said-found-one-to-one = one-to-one saidFound (answerOf FoundAnswer.Found FoundAn
 
 pub said-print-one-to-one : (a b : PrintAnswer) → saidPrint a ≡ saidPrint b → a ≡ b
 said-print-one-to-one = one-to-one saidPrint (answerOf PrintAnswer.Printed PrintAnswer.Refused) print-back
-
--- ---- a word read as a number; all that it can be refused by is one number
-abbrev wordOf : {A W : Type 0} → (A → W) → W → Told A → W
-wordOf read unread (told v) = read v
-wordOf read unread (refused n) = unread
-
-byte-back : (a : ByteWord) → wordOf ByteWord.Byte ByteWord.Unread (saidByte a) ≡ a
-byte-back (ByteWord.Byte n) = refl
-byte-back ByteWord.Unread = refl
-
-natural-back : (a : NaturalWord) → wordOf NaturalWord.Natural NaturalWord.Unread (saidNatural a) ≡ a
-natural-back (NaturalWord.Natural n) = refl
-natural-back NaturalWord.Unread = refl
-
-integer-back : (a : IntegerWord) → wordOf IntegerWord.Integer IntegerWord.Unread (saidInteger a) ≡ a
-integer-back (IntegerWord.Integer z) = refl
-integer-back IntegerWord.Unread = refl
-
-float-back : (a : FloatWord) → wordOf FloatWord.Float FloatWord.Unread (saidFloat a) ≡ a
-float-back (FloatWord.Float x) = refl
-float-back FloatWord.Unread = refl
-
-pub byte-determined : (word : List ℕ) (a b : ByteWord) → saidByte a ≡ Numbers.u8 word → saidByte b ≡ Numbers.u8 word → a ≡ b
-byte-determined word = determined saidByte (one-to-one saidByte (wordOf ByteWord.Byte ByteWord.Unread) byte-back)
-
-pub natural-determined : (word : List ℕ) (a b : NaturalWord) → saidNatural a ≡ Numbers.u64 word → saidNatural b ≡ Numbers.u64 word → a ≡ b
-natural-determined word = determined saidNatural (one-to-one saidNatural (wordOf NaturalWord.Natural NaturalWord.Unread) natural-back)
-
-pub integer-determined : (word : List ℕ) (a b : IntegerWord) → saidInteger a ≡ Numbers.i32 word → saidInteger b ≡ Numbers.i32 word → a ≡ b
-integer-determined word = determined saidInteger (one-to-one saidInteger (wordOf IntegerWord.Integer IntegerWord.Unread) integer-back)
-
-pub float-determined : (word : List ℕ) (a b : FloatWord) → saidFloat a ≡ Numbers.f64 word → saidFloat b ≡ Numbers.f64 word → a ≡ b
-float-determined word = determined saidFloat (one-to-one saidFloat (wordOf FloatWord.Float FloatWord.Unread) float-back)
 
 -- ---- the operations
 pub read-line-determined : (line : List ℕ) (a b : QueryAnswer) → saidQuery a ≡ queryOf line → saidQuery b ≡ queryOf line → a ≡ b

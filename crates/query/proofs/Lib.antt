@@ -1,9 +1,5 @@
 pub mod Examples
-pub mod NumberLaws
-pub mod PatternLaws
-pub mod WordLaws
 pub mod LineLaws
-pub mod Stores
 pub mod PrintLaws
 pub mod AnswerLaws
 pub mod Determined

@@ -1,6 +1,5 @@
 -- A query line by its words w, in the form of what its reader has in hand: each word that was read, and what its reader said.
--- Assumes nothing.
-use mathlib.Core.Path.{_≡_, refl, sym, ap, _∙_}
+use mathlib.Core.Path.{_≡_, refl, sym, _∙_}
 use mathlib.Core.Bool.{Bool, true, false, cond, and-false}
 use mathlib.Core.List.{List, []}
 use Prim.Native.Nat.{ℕ, _^_, _≤_, _<_}
@@ -17,16 +16,16 @@ use borrow.Author.Needs.{sfits-of}
 use Rattle.triple.specs.declared.Triple.{Triple}
 use Rattle.triple.specs.declared.refusal.Refusal.the-variants as Is
 use Rattle.triple.specs.Refusals.{Told, told, refused, numberOf}
-use Rattle.grammar.specs.Texts.{fieldsOf}
+use Rattle.text.specs.Words.{wordsOf}
+use Rattle.text.specs.Decimals.{u8, u64, i32}
+use Rattle.text.specs.Patterns.{f64}
+use Rattle.text.specs.declared.number.ByteWord.{ByteWord}
+use Rattle.text.specs.declared.number.NaturalWord.{NaturalWord}
+use Rattle.text.specs.declared.number.IntegerWord.{IntegerWord}
+use Rattle.text.specs.declared.number.FloatWord.{FloatWord}
+use Rattle.text.specs.Answers.{saidByte, saidNatural, saidInteger, saidFloat}
 use Rattle.query.specs.declared.Query.{Query}
-use Rattle.query.specs.declared.number.ByteWord.{ByteWord}
-use Rattle.query.specs.declared.number.NaturalWord.{NaturalWord}
-use Rattle.query.specs.declared.number.IntegerWord.{IntegerWord}
-use Rattle.query.specs.declared.number.FloatWord.{FloatWord}
-use Rattle.query.specs.Numbers.{u8, u64, i32, f64}
-use Rattle.query.specs.Words.{positionRest, cellRest, pointRest}
-use Rattle.query.specs.Lines.{positionQuery, cellQuery, pointQuery, starts, queryOf}
-use Rattle.query.specs.Answers.{saidByte, saidNatural, saidInteger, saidFloat}
+use Rattle.query.specs.Lines.{positionRest, cellRest, pointRest, headed, starts, queryOf}
 
 -- ---- a reader said it of a word as it was cut, p, which is the word q
 pub byte-of : (a : ByteWord) {p q : List ℕ} → p ≡ q → saidByte a ≡ u8 p → saidByte a ≡ u8 q
@@ -108,14 +107,14 @@ module _ (letter n : ℕ) (w : List (List ℕ)) where
 
 -- ---- the query
 pub chosen : List (List ℕ) → Told Query
-chosen w = cond (starts 80 4 w) (positionQuery w) (cond (starts 67 6 w) (cellQuery w) (cond (starts 82 5 w) (pointQuery w) (refused (numberOf Is.Line))))
+chosen w = cond (starts 80 4 w) (headed positionRest w) (cond (starts 67 6 w) (headed cellRest w) (cond (starts 82 5 w) (headed pointRest w) (refused (numberOf Is.Line))))
 
 module _ (line : List ℕ) where
   pub long-line : 64 < length line → refused (numberOf Is.Line) ≡ queryOf line
   unfolding queryOf
   long-line h = simp (lt-ltb 64 (length line) h)
 
-  pub short-line : length line ≤ 64 → (x : Told Query) → x ≡ chosen (fieldsOf line) → x ≡ queryOf line
+  pub short-line : length line ≤ 64 → (x : Told Query) → x ≡ chosen (wordsOf line) → x ≡ queryOf line
   unfolding queryOf chosen
   short-line h x e = e ∙ simp (le-ltb 64 (length line) h)
 
@@ -124,7 +123,7 @@ module _ (w : List (List ℕ)) where
   unfolding chosen
   no-form p c r = simp (p, c, r)
 
-  no-word : positionQuery w ≡ refused (numberOf Is.Line) → cellQuery w ≡ refused (numberOf Is.Line) → pointQuery w ≡ refused (numberOf Is.Line) → refused (numberOf Is.Line) ≡ chosen w
+  no-word : headed positionRest w ≡ refused (numberOf Is.Line) → headed cellRest w ≡ refused (numberOf Is.Line) → headed pointRest w ≡ refused (numberOf Is.Line) → refused (numberOf Is.Line) ≡ chosen w
   unfolding chosen
   no-word p c r = simp (p, c, r, cond-same)
     where
@@ -161,12 +160,12 @@ module _ (w : List (List ℕ)) where
   -- the orientation and the resolution
   module _ (a : ByteWord) (s : saidByte a ≡ u8 (getD w 1 [])) where
     pub no-orientation : a ≡ ByteWord.Unread → refused (numberOf Is.Line) ≡ chosen w
-    unfolding positionQuery cellQuery pointQuery
+    unfolding headed
     no-orientation t = no-word (rw (← s, t)) (rw (← s, t)) (rw (← s, t))
 
     module _ (o : ℕ) (t : a ≡ ByteWord.Byte o) (b : ByteWord) (s′ : saidByte b ≡ u8 (getD w 2 [])) where
       pub no-resolution : b ≡ ByteWord.Unread → refused (numberOf Is.Line) ≡ chosen w
-      unfolding positionQuery cellQuery pointQuery
+      unfolding headed
       no-resolution t′ = no-word (rw (← s, t, ← s′, t′)) (rw (← s, t, ← s′, t′)) (rw (← s, t, ← s′, t′))
 
       module _ (r : ℕ) (t′ : b ≡ ByteWord.Byte r) (h : List ℕ) (e : h ≡ getD w 0 []) (one : length h ≡ 1) (n : ℕ) (c : n ≡ length w) (x : Told Query) where
@@ -174,15 +173,15 @@ module _ (w : List (List ℕ)) where
         form letter k m d = starts-so letter k w (sym c ∙ d) (rw e at one) (rw e at m)
 
         pub some-position : x ≡ positionRest o r w → getD h 0 0 ≡ 80 → n ≡ 4 → x ≡ chosen w
-        unfolding chosen positionQuery
+        unfolding chosen headed
         some-position q m d = q ∙ rw (form 80 4 m d, ← s, t, ← s′, t′)
 
         pub some-cell : x ≡ cellRest o r w → getD h 0 0 ≡ 67 → n ≡ 6 → x ≡ chosen w
-        unfolding chosen cellQuery
+        unfolding chosen headed
         some-cell q m d = q ∙ rw (another h e 67 80 4 m (λ z. omega arith), form 67 6 m d, ← s, t, ← s′, t′)
 
         pub some-point : x ≡ pointRest o r w → getD h 0 0 ≡ 82 → n ≡ 5 → x ≡ chosen w
-        unfolding chosen pointQuery
+        unfolding chosen headed
         some-point q m d = q ∙ rw (another h e 82 80 4 m (λ z. omega arith), another h e 82 67 6 m (λ z. omega arith), form 82 5 m d, ← s, t, ← s′, t′)
 
 pub ruleset refusal-laws = (byte-of, long-line, short-line, no-letter, no-query, no-position, no-cell, no-point, no-orientation, no-resolution)

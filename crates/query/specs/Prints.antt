@@ -1,18 +1,17 @@
 -- A line printed into a lent buffer.
-use mathlib.Core.Path.{_≡_}
 use mathlib.Core.List.{List, _++_}
-use Prim.Native.Nat.{ℕ, _+_, _≤_}
+use Prim.Native.Nat.{ℕ}
 use lib.Dec.{ltb}
 use lib.ListN.{length, drop}
-use lib.Seq.{sets}
 use Rattle.triple.specs.declared.refusal.Refusal.the-variants as Is
 use Rattle.triple.specs.Refusals.{Told, told, refused, refuse}
+use Rattle.text.specs.Words.{spaced}
 use Rattle.query.specs.declared.Found.{Found}
-use Rattle.query.specs.Lines.{wordsOf, spaced}
+use Rattle.query.specs.Lines.{foundWords}
 
 -- the line of what was found
 abbrev pub foundText : Told Found → List ℕ
-foundText found = spaced (wordsOf found)
+foundText found = spaced (foundWords found)
 
 -- THE LENGTH of a text that is printed
 unfoldable pub printOf : List ℕ → List ℕ → Told ℕ
@@ -25,9 +24,3 @@ printed text buffer (refused e) = buffer
 
 unfoldable pub afterPrint : List ℕ → List ℕ → List ℕ
 afterPrint text buffer = printed text buffer (printOf text buffer)
-
--- ---- a part of a line, of at most so many bytes, put at a place; the next place is after it
-pub record Wrote (most : ℕ) (before : List ℕ) (at : ℕ) (text : List ℕ) (after : List ℕ) (next : ℕ) : Type 0 where
-  pub after-is : after ≡ sets before at text
-  pub next-is : next ≡ at + length text
-  pub near : next ≤ at + most

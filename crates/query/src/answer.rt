@@ -19,7 +19,8 @@ use lsystem::cell::s_to_cell;
 use lsystem::lookup::PositionAnswer;
 use lsystem::lookup::triple_to_s;
 use triple::Triple;
-use triple::refusal::Refusal;
+use triple::domain::DomainAnswer;
+use triple::domain::domain_of;
 
 pub fn answer(query: Query) -> FoundAnswer
     ensures { λ a. ⌜ saidFound a ≡ answerOf query ⌝ }
@@ -54,11 +55,9 @@ fn position_found(o: u8, r: u8, t: Triple) -> FoundAnswer
 fn point_found(o: u8, r: u8, i: f64, j: f64) -> FoundAnswer
     ensures { λ a. ⌜ saidFound a ≡ answerOf (Query.Point o r i j) ⌝ }
 {
-    if r > Triple::GREATEST_RESOLUTION {
-        return FoundAnswer::Refused(Refusal::Resolution);
-    }
-    if o > 5 {
-        return FoundAnswer::Refused(Refusal::Orientation);
+    let domain = domain_of(o, r);
+    if let DomainAnswer::Refused(e) = domain {
+        return FoundAnswer::Refused(e);
     }
     let rounded = round_to_triple(i, j, r);
     match rounded {

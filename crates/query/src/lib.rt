@@ -1,14 +1,13 @@
 // Answers for queries: a line of bytes read into one, what it finds, and that printed as a line.
-// What is found is `lsystem`'s and `curve`'s; the lines of an input and the output are the program
-// `wedge`'s.
-use lsystem::Named;
+// What is found is `lsystem`'s and `curve`'s, words and numbers are `text`'s; the lines of an input and
+// the output are the program `wedge`'s.
 use lsystem::Position;
+use lsystem::cell::Cell;
 use triple::Triple;
 use triple::refusal::Refusal;
 
 pub mod answer;
 pub mod line;
-pub mod number;
 pub mod print;
 
 // Each names an orientation and a resolution, and then a position, a triple or a point of two f64.
@@ -20,7 +19,7 @@ pub enum Query {
 
 // A position's cell; a triple's position; a point's triple and its position.
 pub enum Found {
-    Cell(Named),
+    Cell(Cell),
     Position(Position),
     Point(Triple, Position),
 }

@@ -1,82 +1,23 @@
-// A query line, cut into words at its spaces and read.
+// A query line, read from its words.
 ghost use mathlib.Core.Path.{_≡_};
-ghost use mathlib.Core.List.{[]};
-ghost use Prim.Native.Nat.{_+_, _≤_};
-ghost use lib.ListN.{length, getD, drop};
-ghost use Rattle.grammar.specs.Texts.{fieldsOf};
-ghost use Rattle.query.specs.Words.{wordLength, positionRest, cellRest, pointRest};
-ghost use Rattle.query.specs.Lines.{queryOf};
+ghost use Rattle.text.specs.Words.{wordsOf};
+ghost use Rattle.query.specs.Lines.{positionRest, cellRest, pointRest, queryOf};
 ghost use Rattle.query.specs.Answers.{saidQuery};
 use crate::Query;
 use crate::QueryAnswer;
-use crate::number;
-use crate::number::ByteWord;
-use crate::number::FloatWord;
-use crate::number::IntegerWord;
-use crate::number::NaturalWord;
+use text::number;
+use text::number::ByteWord;
+use text::number::FloatWord;
+use text::number::IntegerWord;
+use text::number::NaturalWord;
+use text::words::count;
+use text::words::word;
 use triple::Triple;
 use triple::refusal::Refusal;
 
-// The end of the word that starts at a place: the next space, or the line's end.
-fn end(line: &[u8], at: usize) -> usize
-    requires { ⌜ at ≤ length (now line) ⌝ }
-    ensures { λ e. ⌜ e ≡ at + wordLength (drop at (now (line .entry))) ⌝ }
-{
-    let mut i = at;
-    while i < line.len() {
-        if line[i] == 32 {
-            return i;
-        }
-        i += 1;
-    }
-    i
-}
-
-// How many words a line has, some of them empty where spaces meet; one at least.
-pub fn count(line: &[u8]) -> usize
-    ensures { λ n. ⌜ n ≡ length (fieldsOf (now (line .entry))) ⌝ }
-{
-    let mut n: usize = 1;
-    let mut at: usize = 0;
-    loop {
-        let e = end(line, at);
-        if e == line.len() {
-            return n;
-        }
-        n += 1;
-        at = e + 1;
-    }
-}
-
-// Where word k starts, from 0; the line's end where there is none.
-fn start(line: &[u8], k: usize) -> usize
-    ensures { λ a. ⌜ (a ≤ length (now (line .entry))) × (getD (fieldsOf (drop a (now (line .entry)))) 0 [] ≡ getD (fieldsOf (now (line .entry))) k []) ⌝ }
-{
-    let mut at: usize = 0;
-    let mut left = k;
-    while left > 0 {
-        let e = end(line, at);
-        if e == line.len() {
-            return e;
-        }
-        at = e + 1;
-        left -= 1;
-    }
-    at
-}
-
-// Word k; empty where there is none.
-pub fn word(line: &[u8], k: usize) -> &[u8]
-    ensures { λ w. ⌜ now w ≡ getD (fieldsOf (now (line .entry))) k [] ⌝ }
-{
-    let a = start(line, k);
-    let e = end(line, a);
-    &line[a..e]
-}
-
 // P o r s, of which o and r are read.
 fn position_query(line: &[u8], o: u8, r: u8) -> QueryAnswer
-    ensures { λ q. ⌜ saidQuery q ≡ positionRest o r (fieldsOf (now (line .entry))) ⌝ }
+    ensures { λ q. ⌜ saidQuery q ≡ positionRest o r (wordsOf (now (line .entry))) ⌝ }
 {
     let NaturalWord::Natural(s) = number::natural(word(line, 3)) else {
         return QueryAnswer::Refused(Refusal::Line);
@@ -86,7 +27,7 @@ fn position_query(line: &[u8], o: u8, r: u8) -> QueryAnswer
 
 // C o r x y z, of which o and r are read.
 fn cell_query(line: &[u8], o: u8, r: u8) -> QueryAnswer
-    ensures { λ q. ⌜ saidQuery q ≡ cellRest o r (fieldsOf (now (line .entry))) ⌝ }
+    ensures { λ q. ⌜ saidQuery q ≡ cellRest o r (wordsOf (now (line .entry))) ⌝ }
 {
     let IntegerWord::Integer(x) = number::integer(word(line, 3)) else {
         return QueryAnswer::Refused(Refusal::Line);
@@ -102,7 +43,7 @@ fn cell_query(line: &[u8], o: u8, r: u8) -> QueryAnswer
 
 // R o r i j, of which o and r are read.
 fn point_query(line: &[u8], o: u8, r: u8) -> QueryAnswer
-    ensures { λ q. ⌜ saidQuery q ≡ pointRest o r (fieldsOf (now (line .entry))) ⌝ }
+    ensures { λ q. ⌜ saidQuery q ≡ pointRest o r (wordsOf (now (line .entry))) ⌝ }
 {
     let FloatWord::Float(i) = number::float(word(line, 3)) else {
         return QueryAnswer::Refused(Refusal::Line);

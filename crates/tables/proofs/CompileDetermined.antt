@@ -1,14 +1,11 @@
 -- The compiler's contract allows one result alone; and what it writes is what the drawing asks.
--- Assumes nothing.
-use mathlib.Core.Path.{_≡_, refl, sym, ap, _∙_, subst}
+use mathlib.Core.Path.{_≡_, refl, sym, ap, _∙_}
 use mathlib.Core.List.{List, _++_}
-use Prim.Native.Nat.{ℕ, zero, suc, _*_, _^_, _<_, _≤_}
-use native.Mathlib.Omega.{arith}
+use Prim.Native.Nat.{ℕ, _*_, _^_, _<_, _≤_}
 use lib.IntN.{ℤ}
 use lib.ListN.{length, getD, drop}
 use borrow.Author.Tests.{le-ltb}
-use Rattle.triple.specs.declared.refusal.Refusal.{Refusal}
-use Rattle.triple.specs.Refusals.{told, numberOf}
+use Rattle.triple.specs.Refusals.{told}
 use Rattle.triple.proofs.Determined.{one-to-one, refusalOf, numbered}
 use Rattle.grammar.specs.Texts.{linesOf}
 use Rattle.grammar.specs.Curves.{drawing, tokenBytes, letterOf}

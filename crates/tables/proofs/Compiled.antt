@@ -1,6 +1,5 @@
 -- A COMPILED TABLE DESCENDS: of every text that is accepted, the descent over its table, with anything behind it, answers the cell at each place
 -- of the drawing, and refuses nothing: the table is readable, as its children are tokens, its numbers small and its flavors 0 to 3.
--- Assumes nothing.
 use mathlib.Core.Path.{_≡_, sym, ap, _∙_, subst}
 use mathlib.Core.Bool.{Bool, true, false}
 use mathlib.Core.List.{List, _++_}

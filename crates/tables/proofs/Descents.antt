@@ -10,16 +10,16 @@ use lib.Dec.{eqb}
 use lib.ListN.{length, getD, List·getD-append}
 use lib.Seq.{getD-append-add}
 use Rattle.turtle.specs.declared.AB.{AB}
-use Rattle.turtle.specs.declared.walk.Cell.{Cell}
+use Rattle.turtle.specs.declared.walk.DrawnCell.{DrawnCell}
 use Rattle.turtle.specs.Plane.{origin, _⊕_, thrice, signed, facing, flipped, doubled}
 use Rattle.turtle.specs.Walk.{Sym, left, right, letter, turtle, start, move, cells, final}
 use Rattle.turtle.proofs.PlaneLaws.{sum-twice, ⊕-assoc, ⊕-idl, ⊕-idr, signed-⊕, doubled-signed}
 use Rattle.turtle.proofs.WordLaws.{final-append, cells-append, cells-from, placed, placed-placed, placed-start, placed-shift}
-use Rattle.grammar.specs.Curves.{turned, letters}
+use Rattle.grammar.specs.Curves.{turned, letterCount}
 use Rattle.grammar.proofs.Grammars.{Grammar, drawn, netOf, Upright, Accepted}
 use Rattle.grammar.proofs.GrammarLaws.{letters-append, final-heading, drawn-nil, drawn-left, drawn-right, drawn-letter, drawn-zero, drawn-suc, Level, token-final, token-length}
 use Rattle.tables.specs.declared.Child.{Child}
-use Rattle.tables.specs.Children.{met, noChild, noCell}
+use Rattle.tables.specs.Children.{childrenAlong, noChild, noCell}
 
 -- where child d of a rule starts, r passes down
 unfoldable pub startOf : Grammar → ℕ → List Child → ℕ → AB
@@ -28,12 +28,12 @@ startOf g r [] (suc d) = origin
 startOf g r (c ∷ cs) (suc d) = signed (c .flip) (netOf g r (c .token)) ⊕ startOf g r cs d
 
 -- the cell s of the token m with 1 + r passes, for the token at v with flip f
-unfoldable pub descend : Grammar → ℕ → AB → Bool → ℕ → ℕ → Cell
+unfoldable pub descend : Grammar → ℕ → AB → Bool → ℕ → ℕ → DrawnCell
 descend g zero v f m s =
     let c = getD (cells (drawn g 1 (letter m ∷ [])) (turtle origin (facing f))) (s % 4) noCell in
     record { sum = thrice v ⊕ c .sum; flavor = c .flavor }
 descend g (suc r) v f m s =
-    let cs = met 0 (g .rule m) in
+    let cs = childrenAlong 0 (g .rule m) in
     let d = s / 4 ^ suc r % 4 in
     let c = getD cs d noChild in
     descend g r (v ⊕ doubled r (signed f (startOf g 1 cs d))) (flipped f (c .flip)) (c .token) s
@@ -70,27 +70,27 @@ module _ (g : Grammar) (r : ℕ) (l : Level g r) where
 
   -- ---- a word of children: where its walk ends, how many strokes it has, and its cell number d * 4 ^ r + j
   word-final : (h : ℕ) (w : List (Sym ℕ)) (v : AB) → Upright g h w →
-      final (drawn g r w) (turtle v h) ≡ turtle (v ⊕ startOf g r (met h w) (length (met h w))) (turned h w)
-  unfolding Upright final move met turned startOf
+      final (drawn g r w) (turtle v h) ≡ turtle (v ⊕ startOf g r (childrenAlong h w) (length (childrenAlong h w))) (turned h w)
+  unfolding Upright final move childrenAlong turned startOf
   word-final h [] v u = rw (drawn-nil, ⊕-idr)
   word-final h (left ∷ w) v u = rw drawn-left (word-final ((h + 1) % 6) w v u)
   word-final h (right ∷ w) v u = rw drawn-right (word-final ((h + 5) % 6) w v u)
   word-final h (letter m ∷ w) v u =
       rw (drawn-letter, final-append, token-final g r l m (u .1) v h (eqb h 3) (u .0), ← (⊕-assoc v _ _)) (word-final h w _ (u .2))
 
-  word-letters : (h : ℕ) (w : List (Sym ℕ)) → Upright g h w → letters (drawn g r w) ≡ letters w * 4 ^ r
-  unfolding Upright letters
+  word-letters : (h : ℕ) (w : List (Sym ℕ)) → Upright g h w → letterCount (drawn g r w) ≡ letterCount w * 4 ^ r
+  unfolding Upright letterCount
   word-letters h [] u = rw drawn-nil (omega (arith, N.zero-mul (4 ^ r)))
   word-letters h (left ∷ w) u = rw drawn-left (word-letters ((h + 1) % 6) w u)
   word-letters h (right ∷ w) u = rw drawn-right (word-letters ((h + 5) % 6) w u)
   word-letters h (letter m ∷ w) u =
-      rw (drawn-letter, letters-append) (omega (arith, l .size m (u .1), word-letters h w (u .2), N.suc-mul (letters w) (4 ^ r)))
+      rw (drawn-letter, letters-append) (omega (arith, l .size m (u .1), word-letters h w (u .2), N.suc-mul (letterCount w) (4 ^ r)))
 
-  word-cell : (h : ℕ) (w : List (Sym ℕ)) (v : AB) (d j : ℕ) → Upright g h w → d < letters w → j < 4 ^ r →
+  word-cell : (h : ℕ) (w : List (Sym ℕ)) (v : AB) (d j : ℕ) → Upright g h w → d < letterCount w → j < 4 ^ r →
       getD (cells (drawn g r w) (turtle v h)) (d * 4 ^ r + j) noCell
-      ≡ placed (v ⊕ startOf g r (met h w) d) (getD (met h w) d noChild .flip)
-      (getD (cells (drawn g r (letter (getD (met h w) d noChild .token) ∷ [])) start) j noCell)
-  unfolding Upright letters met cells move startOf
+      ≡ placed (v ⊕ startOf g r (childrenAlong h w) d) (getD (childrenAlong h w) d noChild .flip)
+      (getD (cells (drawn g r (letter (getD (childrenAlong h w) d noChild .token) ∷ [])) start) j noCell)
+  unfolding Upright letterCount childrenAlong cells move startOf
   word-cell h [] v d j u b c = let z : ⊥ = omega arith in absurd z
   word-cell h (left ∷ w) v d j u b c = rw drawn-left (word-cell ((h + 1) % 6) w v d j u b c)
   word-cell h (right ∷ w) v d j u b c = rw drawn-right (word-cell ((h + 5) % 6) w v d j u b c)
@@ -110,8 +110,8 @@ module _ (g : Grammar) (r : ℕ) (l : Level g r) where
       ) (word-cell h w _ d j (u .2) (omega arith) c)
 
 -- ---- each child is a token
-pub child-token : (g : Grammar) (h : ℕ) (w : List (Sym ℕ)) (d : ℕ) → Upright g h w → d < letters w → getD (met h w) d noChild .token < g .tokens
-unfolding Upright met letters
+pub child-token : (g : Grammar) (h : ℕ) (w : List (Sym ℕ)) (d : ℕ) → Upright g h w → d < letterCount w → getD (childrenAlong h w) d noChild .token < g .tokens
+unfolding Upright childrenAlong letterCount
 child-token g h [] d u b = let z : ⊥ = omega arith in absurd z
 child-token g h (left ∷ w) d u b = child-token g ((h + 1) % 6) w d u b
 child-token g h (right ∷ w) d u b = child-token g ((h + 5) % 6) w d u b
@@ -121,8 +121,8 @@ child-token g h (letter m ∷ w) (suc d) u b = child-token g h w d (u .2) (omega
 -- ---- one pass more doubles where a word's children start if it doubles the tokens' nets
 start-twice : (g : Grammar) (r : ℕ) → ((m : ℕ) → m < g .tokens → netOf g (suc r) m ≡ netOf g r m ⊕ netOf g r m) →
     (h : ℕ) (w : List (Sym ℕ)) (d : ℕ) → Upright g h w →
-    startOf g (suc r) (met h w) d ≡ startOf g r (met h w) d ⊕ startOf g r (met h w) d
-unfolding Upright met startOf
+    startOf g (suc r) (childrenAlong h w) d ≡ startOf g r (childrenAlong h w) d ⊕ startOf g r (childrenAlong h w) d
+unfolding Upright childrenAlong startOf
 start-twice g r tw h [] zero u = sym (⊕-idl origin)
 start-twice g r tw h [] (suc d) u = sym (⊕-idl origin)
 start-twice g r tw h (left ∷ w) d u = start-twice g r tw ((h + 1) % 6) w d u
@@ -132,7 +132,7 @@ start-twice g r tw h (letter m ∷ w) (suc d) u = rw (tw m (u .1), start-twice g
 
 module _ (g : Grammar) (ok : Accepted g) where
   rule-final : (r : ℕ) → Level g r → (m : ℕ) → m < g .tokens →
-      final (drawn g r (g .rule m)) start ≡ turtle (origin ⊕ startOf g r (met 0 (g .rule m)) (length (met 0 (g .rule m)))) (turned 0 (g .rule m))
+      final (drawn g r (g .rule m)) start ≡ turtle (origin ⊕ startOf g r (childrenAlong 0 (g .rule m)) (length (childrenAlong 0 (g .rule m)))) (turned 0 (g .rule m))
   rule-final r l m b = word-final g r l 0 (g .rule m) origin (ok .faced m b)
 
   level : (r : ℕ) → Level g r
@@ -146,7 +146,7 @@ module _ (g : Grammar) (ok : Accepted g) where
     size = λ m b. rw drawn-suc (word-letters g r (level r) 0 (g .rule m) (ok .faced m b) ∙ rw (ok .four m b) (sym (N.pow-succ' 4 r)));
   }
 
-  net-suc : (r m : ℕ) → m < g .tokens → netOf g (suc r) m ≡ startOf g r (met 0 (g .rule m)) (length (met 0 (g .rule m)))
+  net-suc : (r m : ℕ) → m < g .tokens → netOf g (suc r) m ≡ startOf g r (childrenAlong 0 (g .rule m)) (length (childrenAlong 0 (g .rule m)))
   unfolding netOf
   net-suc r m b = ap (λ w. final w start .at) (drawn-suc g r m) ∙ (ap (λ t. t .at) (rule-final r (level r) m b) ∙ ⊕-idl _)
 
@@ -154,7 +154,7 @@ module _ (g : Grammar) (ok : Accepted g) where
   net-twice zero m b = ok .twice m b
   net-twice (suc r) m b = rw (net-suc (suc (suc r)) m b, net-suc (suc r) m b) (start-twice g (suc r) (net-twice r) 0 (g .rule m) _ (ok .faced m b))
 
-  start-doubled : (r : ℕ) (w : List (Sym ℕ)) (d : ℕ) → Upright g 0 w → startOf g (suc r) (met 0 w) d ≡ doubled r (startOf g 1 (met 0 w) d)
+  start-doubled : (r : ℕ) (w : List (Sym ℕ)) (d : ℕ) → Upright g 0 w → startOf g (suc r) (childrenAlong 0 w) d ≡ doubled r (startOf g 1 (childrenAlong 0 w) d)
   unfolding doubled
   start-doubled zero w d u = refl
   start-doubled (suc r) w d u = rw (start-twice g (suc r) (net-twice r) 0 w d u, start-doubled r w d u)
@@ -165,7 +165,7 @@ module _ (g : Grammar) (ok : Accepted g) where
   descend-placed zero v f m s b =
       rw (token-cell g 1 (level 1) m b origin (facing f) f (s % 4) refl (omega arith)) (placed-shift v f _)
   descend-placed (suc r) v f m s b =
-      let d : s / 4 ^ suc r % 4 < letters (g .rule m) = rw (ok .four m b) (omega arith) in
+      let d : s / 4 ^ suc r % 4 < letterCount (g .rule m) = rw (ok .four m b) (omega arith) in
       let p : 0 < 4 ^ suc r = N.one-le-pow (suc r) 4 (omega arith) in
       let u = ok .faced m b in
       rw (

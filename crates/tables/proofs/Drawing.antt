@@ -1,6 +1,5 @@
 -- THE DRAWING: of every text that is accepted, the descent over its table gives the cell at each place of the full drawing, and the drawing
 -- has exactly 4 ^ r cells. What the tests say of the text is `grammar`'s `accepted` and `linked`; that the table follows the drawing, `Follow`'s.
--- Assumes nothing.
 use mathlib.Core.Path.{_≡_}
 use mathlib.Core.List.{List}
 use Prim.Native.Nat.{ℕ, suc, _*_, _^_, _<_}

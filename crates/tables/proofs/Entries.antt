@@ -13,7 +13,7 @@ use Rattle.turtle.specs.Plane.{ab, signed, flipped}
 use Rattle.grammar.specs.Texts.{Line}
 use Rattle.grammar.specs.Curves.{tokenBytes}
 use Rattle.tables.specs.Children.{child, offset, leaf}
-use Rattle.tables.specs.Table.{bit, stateOf, flavorNumber, upTo, row, tableOf}
+use Rattle.tables.specs.Table.{bit, stateOf, flavorNumber, upTo, stateRow, tableOf}
 use Rattle.tables.specs.Descent.{entry, childAt, offsetAt, sumAt, flavorAt}
 use Rattle.tables.proofs.Descents.{getD-past}
 
@@ -35,8 +35,8 @@ module _ {A : Type 0} (f : ℕ → List A) (k : ℕ) (even : (i : ℕ) → lengt
           List·getD-append (upTo f n) (f n) z (i * k + j) inside ∙ again l
 
 -- ---- a state's row
-pub length-row : (ls : List Line) (m : ℕ) (f : Bool) → length (row ls m f) ≡ 41
-unfolding row
+pub length-row : (ls : List Line) (m : ℕ) (f : Bool) → length (stateRow ls m f) ≡ 41
+unfolding stateRow
 length-row ls m f = refl
 
 -- what holds at 0, 1, 2 and 3 holds at each digit
@@ -48,40 +48,40 @@ at-digits P p q r s (suc (suc (suc zero))) b = s
 at-digits P p q r s (suc (suc (suc (suc d)))) b = let none : ⊥ = omega arith in absurd none
 
 module _ (ls : List Line) (m : ℕ) (f : Bool) where
-  row-child : (d : ℕ) → d < 4 → getD (row ls m f) d (pos 0) ≡ pos (stateOf (child ls m d .token) (flipped f (child ls m d .flip)))
-  unfolding row
+  row-child : (d : ℕ) → d < 4 → getD (stateRow ls m f) d (pos 0) ≡ pos (stateOf (child ls m d .token) (flipped f (child ls m d .flip)))
+  unfolding stateRow
   row-child = at-digits _ refl refl refl refl
 
-  row-offset : (d : ℕ) → d < 4 → ab (getD (row ls m f) (4 + 2 * d) (pos 0)) (getD (row ls m f) (5 + 2 * d) (pos 0)) ≡ signed f (offset ls m d)
-  unfolding row
+  row-offset : (d : ℕ) → d < 4 → ab (getD (stateRow ls m f) (4 + 2 * d) (pos 0)) (getD (stateRow ls m f) (5 + 2 * d) (pos 0)) ≡ signed f (offset ls m d)
+  unfolding stateRow
   row-offset = at-digits _ refl refl refl refl
 
-  row-sum : (d : ℕ) → d < 4 → ab (getD (row ls m f) (12 + 2 * d) (pos 0)) (getD (row ls m f) (13 + 2 * d) (pos 0)) ≡ leaf ls m f d .sum
-  unfolding row
+  row-sum : (d : ℕ) → d < 4 → ab (getD (stateRow ls m f) (12 + 2 * d) (pos 0)) (getD (stateRow ls m f) (13 + 2 * d) (pos 0)) ≡ leaf ls m f d .sum
+  unfolding stateRow
   row-sum = at-digits _ refl refl refl refl
 
-  row-flavor : (d : ℕ) → d < 4 → getD (row ls m f) (20 + d) (pos 0) ≡ flavorNumber (leaf ls m f d .flavor)
-  unfolding row
+  row-flavor : (d : ℕ) → d < 4 → getD (stateRow ls m f) (20 + d) (pos 0) ≡ flavorNumber (leaf ls m f d .flavor)
+  unfolding stateRow
   row-flavor = at-digits _ refl refl refl refl
 
 -- ---- the table: each token's two rows
 module _ (ls : List Line) where
   abbrev rows : ℕ → List ℤ
-  rows m = row ls m false ++ row ls m true
+  rows m = stateRow ls m false ++ stateRow ls m true
 
   length-rows : (m : ℕ) → length (rows m) ≡ 82
   length-rows m = rw (length-append, length-row, length-row)
 
-  row-of : (m : ℕ) (f : Bool) (j : ℕ) → j < 41 → getD (rows m) (41 * bit f + j) (pos 0) ≡ getD (row ls m f) j (pos 0)
-  row-of m false j h = let k : 0 + j ≡ j = omega arith in rw k (List·getD-append (row ls m false) (row ls m true) (pos 0) j (rw length-row h))
-  row-of m true j h = getD-past (row ls m false) (row ls m true) (pos 0) 41 j (length-row ls m false)
+  row-of : (m : ℕ) (f : Bool) (j : ℕ) → j < 41 → getD (rows m) (41 * bit f + j) (pos 0) ≡ getD (stateRow ls m f) j (pos 0)
+  row-of m false j h = let k : 0 + j ≡ j = omega arith in rw k (List·getD-append (stateRow ls m false) (stateRow ls m true) (pos 0) j (rw length-row h))
+  row-of m true j h = getD-past (stateRow ls m false) (stateRow ls m true) (pos 0) 41 j (length-row ls m false)
 
   pub length-table : length (tableOf ls) ≡ 41 * (2 * length (tokenBytes ls))
   unfolding tableOf
   length-table = omega (arith, length-upTo rows 82 length-rows (length (tokenBytes ls)))
 
   module _ (m : ℕ) (f : Bool) (b : m < length (tokenBytes ls)) where
-    pub entry-is : (j : ℕ) → j < 41 → entry (tableOf ls) (stateOf m f) j ≡ getD (row ls m f) j (pos 0)
+    pub entry-is : (j : ℕ) → j < 41 → entry (tableOf ls) (stateOf m f) j ≡ getD (stateRow ls m f) j (pos 0)
     unfolding entry stateOf tableOf
     entry-is j h =
         let k : 41 * (2 * m + bit f) + j ≡ m * 82 + (41 * bit f + j) = omega arith in

@@ -12,7 +12,7 @@ use Rattle.turtle.specs.Walk.{Sym, left, right, letter, turtle, start, cells, f
 use Rattle.grammar.specs.Texts.{Line}
 use Rattle.grammar.specs.Curves.{strokes, drawing, net, tokenBytes, letterOf}
 use Rattle.grammar.proofs.Grammars.{grammarOf, drawn, netOf, Upright, Accepted}
-use Rattle.tables.specs.Children.{met, children, offsetAfter, offset, leaves, child, noCell}
+use Rattle.tables.specs.Children.{childrenAlong, children, offsetAfter, offset, leaves, child, noCell}
 use Rattle.tables.specs.Table.{stateOf, leafOf, tableOf}
 use Rattle.tables.specs.Descent.{follow}
 use Rattle.tables.proofs.Descents.{startOf, descend, child-token, drawn-length, descend-is}
@@ -28,8 +28,8 @@ module _
   net-is r m b = ap (λ w. final w start .at) (linked r m b)
 
   offset-after : (r h : ℕ) (w : List (Sym ℕ)) (d : ℕ) → Upright (grammarOf ls) h w →
-      offsetAfter ls r (met h w) d ≡ startOf (grammarOf ls) r (met h w) d
-  unfolding grammarOf Upright met offsetAfter startOf
+      offsetAfter ls r (childrenAlong h w) d ≡ startOf (grammarOf ls) r (childrenAlong h w) d
+  unfolding grammarOf Upright childrenAlong offsetAfter startOf
   offset-after r h [] zero u = refl
   offset-after r h [] (suc d) u = refl
   offset-after r h (left ∷ w) d u = offset-after r ((h + 1) % 6) w d u
@@ -37,7 +37,7 @@ module _
   offset-after r h (letter m ∷ w) zero u = refl
   offset-after r h (letter m ∷ w) (suc d) u = rw (net-is r m (u .1), offset-after r h w d (u .2))
 
-  offset-is : (m d : ℕ) → m < length (tokenBytes ls) → offset ls m d ≡ startOf (grammarOf ls) 1 (met 0 (grammarOf ls .rule m)) d
+  offset-is : (m d : ℕ) → m < length (tokenBytes ls) → offset ls m d ≡ startOf (grammarOf ls) 1 (childrenAlong 0 (grammarOf ls .rule m)) d
   unfolding offset children grammarOf
   offset-is m d b = offset-after 1 0 (grammarOf ls .rule m) d (ok .faced m b)
 

@@ -1,49 +1,47 @@
 -- A state's children in its frame, in the form of what the code has in hand.
--- Assumes nothing.
 use mathlib.Core.Path.{_≡_, refl, sym, ap, _∙_, subst}
 use mathlib.Core.Bool.{Bool, true, false, not}
 use mathlib.Core.List.{List, [], _∷_, map}
-use Prim.Native.Nat.{ℕ, zero, suc, _+_, _*_, _^_, _%_, _<_, _≤_}
+use Prim.Native.Nat.{ℕ, suc, _+_, _*_, _^_, _%_, _<_, _≤_}
 use native.Mathlib.Omega.{arith}
 use lib.IntN.{ℤ, pos, negℤ, _+ℤ_, _-ℤ_}
 use lib.Signed.{mag}
 use lib.ListN.{length, getD, List·getD-map}
 use mir.Syntax.{w8, w64}
 use mir.Val.{SFits, toZ, ofZ}
-use Rattle.whole.proofs.View.{view, v-bits, v-add, v-neg, eq-by, fits, kept}
+use Rattle.whole.proofs.View.{view, eq-by, fits, kept}
 use Rattle.turtle.specs.declared.AB.{AB}
-use Rattle.turtle.specs.Plane.{ab, origin, _⊕_, neg, signed, flipped, facing, thrice}
-use Rattle.turtle.specs.Sizes.{Within, Small}
+use Rattle.turtle.specs.Plane.{ab, origin, _⊕_, neg, signed, flipped, facing}
+use Rattle.turtle.specs.Inside.Sizes.{Within, Small}
 use Rattle.turtle.specs.declared.letter.Stroke.{Stroke}
 use Rattle.turtle.specs.declared.walk.Turtle.{Turtle}
-use Rattle.turtle.specs.Walk.{Sym, left, right, letter, turtle, start, move, final}
+use Rattle.turtle.specs.Walk.{Sym, left, right, letter, turtle, start, move}
 use Rattle.turtle.proofs.PlaneLaws.{⊕-assoc, ⊕-idr, signed-origin}
 use Rattle.turtle.proofs.WalkLaws.{v-small, small-more, add-small}
 use Rattle.classifier.specs.declared.Corner.{Corner}
 use Rattle.classifier.specs.declared.Hull.{Hull}
 use Rattle.classifier.specs.declared.Placed.{Placed}
 use Rattle.classifier.specs.Hulls.{hull}
-use Rattle.classifier.specs.Parts.{pointOf, noCorner, hullBy, pointsOf, cornersOf, polygonOf, polygonsOf, noPlaced}
+use Rattle.classifier.specs.Shapes.{pointOf, noCorner, hullBy, pointsOf, placedCorners, polygonsOf}
 use Rattle.classifier.proofs.HullLaws.{points-by}
-use Rattle.classifier.proofs.ReadLaws.{v-i8}
+use Rattle.classifier.proofs.ComparisonLaws.{v-i8}
 use Rattle.grammar.specs.Texts.{Line, linesOf}
-use Rattle.grammar.specs.Curves.{strokes, net, letterOf, tokenBytes, letters}
+use Rattle.grammar.specs.Curves.{strokes, net, letterOf, letterCount}
 use Rattle.grammar.specs.Tests.{fine}
 use Rattle.grammar.proofs.Grammars.{grammarOf}
 use Rattle.grammar.proofs.Meaning.{accepted, linked}
 use Rattle.tables.specs.declared.Child.{Child}
 use Rattle.tables.specs.declared.Drawn.{Drawn}
 use Rattle.tables.specs.declared.Source.{Source}
-use Rattle.tables.specs.Children.{met, children, child, noChild, offsetAfter, offset}
-use Rattle.tables.specs.Hulls.{footprint, hullOf}
-use Rattle.tables.specs.Classifier.{placed, polygon, polygons}
-use Rattle.tables.specs.Frames.{starts, ChildrenOf}
-use Rattle.tables.specs.Leaves.{IsDrawn}
-use Rattle.tables.specs.Sources.{Ready}
+use Rattle.tables.specs.Children.{childrenAlong, children, child, noChild, offsetAfter, offset}
+use Rattle.tables.specs.Classifier.{footprint, hullOf, placedHull, polygon, polygons}
+use Rattle.tables.specs.Inside.Frames.{starts, ChildrenOf}
+use Rattle.tables.specs.Inside.Leaves.{IsDrawn}
+use Rattle.tables.specs.Inside.Sources.{Ready}
 use Rattle.classifier.proofs.HullSizes.{hull-long}
 use Rattle.tables.proofs.LeafLaws.{four-strokes}
 use Rattle.tables.proofs.Follow.{child-bound}
-use Rattle.tables.proofs.MeetingLaws.{length-letters}
+use Rattle.tables.proofs.RuleChildLaws.{length-letters}
 use Rattle.tables.proofs.SizeLaws.{signed-small}
 
 -- ---- flips
@@ -92,9 +90,9 @@ pointed {c} {p} a b made =
     made ∙ rw (ea, eb) refl
 
 -- ---- strides, and footprints where they stand
-module _ {w : List (Sym Stroke)} {t : Turtle} {d : Drawn} (drawn : IsDrawn w t d) (four : letters w ≡ 4) where
-  footprint-long : (w : List (Sym Stroke)) (t : Turtle) → length (footprint w t) ≡ 3 * letters w
-  unfolding footprint letters
+module _ {w : List (Sym Stroke)} {t : Turtle} {d : Drawn} (drawn : IsDrawn w t d) (four : letterCount w ≡ 4) where
+  footprint-long : (w : List (Sym Stroke)) (t : Turtle) → length (footprint w t) ≡ 3 * letterCount w
+  unfolding footprint letterCount
   footprint-long [] t = refl
   footprint-long (left ∷ w) t = footprint-long w (move left t)
   footprint-long (right ∷ w) t = footprint-long w (move right t)
@@ -115,16 +113,16 @@ module _ (text : List ℕ) (c : Child) {s : Source} (r : Ready text s) (below : 
       let near : Small 32 p = subst (Small 32) (sym e) (drawn .near) in
       (f ∙ ap (signed (c .flip)) (e ∙ drawn .end), subst (Small 32) (sym f) (signed-small (c .flip) near))
 
-  pub placed-is : {h : Hull} (f : Bool) {t : Bool} (at : Corner) → h ≡ hullBy (hull (map pointOf (d .corners))) → t ≡ flipped f (c .flip) → cornersOf (record { hull = h; at = at; flip = t }) ≡ placed (linesOf text) c (pointOf at) f
-  unfolding cornersOf placed hullOf facing
+  pub placed-is : {h : Hull} (f : Bool) {t : Bool} (at : Corner) → h ≡ hullBy (hull (map pointOf (d .corners))) → t ≡ flipped f (c .flip) → placedCorners (record { hull = h; at = at; flip = t }) ≡ placedHull (linesOf text) c (pointOf at) f
+  unfolding placedCorners placedHull hullOf facing
   placed-is {h} f {t} at e g = rw (hull-is drawn (four-strokes r (c .token) below) e, g) refl
 
-length-met : (h : ℕ) (w : List (Sym ℕ)) → length (met h w) ≡ letters w
-unfolding met letters
-length-met h [] = refl
-length-met h (left ∷ w) = length-met ((h + 1) % 6) w
-length-met h (right ∷ w) = length-met ((h + 5) % 6) w
-length-met h (letter m ∷ w) = ap suc (length-met h w)
+length-along : (h : ℕ) (w : List (Sym ℕ)) → length (childrenAlong h w) ≡ letterCount w
+unfolding childrenAlong letterCount
+length-along h [] = refl
+length-along h (left ∷ w) = length-along ((h + 1) % 6) w
+length-along h (right ∷ w) = length-along ((h + 5) % 6) w
+length-along h (letter m ∷ w) = ap suc (length-along h w)
 
 -- where children start, one after the other
 stride : List Line → Child → AB
@@ -150,7 +148,7 @@ module _ {text : List ℕ} {s : Source} {m : ℕ} {cs : List Child} (of : Childr
 
   four : length cs ≡ 4
   unfolding children grammarOf
-  four = ap length (of .are) ∙ length-met 0 (grammarOf ls .rule m) ∙ accepted text fine (of .ready .fair) .four m (rw (sym (length-letters (of .ready))) (of .below))
+  four = ap length (of .are) ∙ length-along 0 (grammarOf ls .rule m) ∙ accepted text fine (of .ready .fair) .four m (rw (sym (length-letters (of .ready))) (of .below))
 
   child-at : (d : ℕ) → getD cs d noChild ≡ child ls m d
   child-at d = rw (of .are) refl
@@ -186,10 +184,10 @@ module _ {text : List ℕ} {s : Source} {m : ℕ} {cs : List Child} (of : Childr
   signed-near h s flip e = subst (Small 120) (sym e) (small-more (omega arith) (signed-small flip s))
 
   pub family-is : (flip : Bool) (at : List Corner) → map pointOf at ≡ starts ls m flip → (g0 g1 g2 g3 : Placed)
-      → cornersOf g0 ≡ placed ls (getD cs 0 noChild) (pointOf (getD at 0 noCorner)) flip
-      → cornersOf g1 ≡ placed ls (getD cs 1 noChild) (pointOf (getD at 1 noCorner)) flip
-      → cornersOf g2 ≡ placed ls (getD cs 2 noChild) (pointOf (getD at 2 noCorner)) flip
-      → cornersOf g3 ≡ placed ls (getD cs 3 noChild) (pointOf (getD at 3 noCorner)) flip
+      → placedCorners g0 ≡ placedHull ls (getD cs 0 noChild) (pointOf (getD at 0 noCorner)) flip
+      → placedCorners g1 ≡ placedHull ls (getD cs 1 noChild) (pointOf (getD at 1 noCorner)) flip
+      → placedCorners g2 ≡ placedHull ls (getD cs 2 noChild) (pointOf (getD at 2 noCorner)) flip
+      → placedCorners g3 ≡ placedHull ls (getD cs 3 noChild) (pointOf (getD at 3 noCorner)) flip
       → polygonsOf (g0 ∷ g1 ∷ g2 ∷ g3 ∷ []) ≡ polygons ls m flip
   unfolding polygon starts
   family-is flip at e g0 g1 g2 g3 a b c d =

@@ -1,6 +1,5 @@
 -- Following a table with the place in units of its own level: it doubles at each step and takes the child's offset, and what that comes to
 -- is what adding the offsets times powers of two comes to. And how large such a place gets.
--- Assumes nothing.
 use mathlib.Core.Path.{_≡_, refl, ap, _∙_}
 use mathlib.Core.List.{List}
 use Prim.Native.Nat.{ℕ, zero, suc, _+_, _*_, _/_, _%_, _^_, _≤_}

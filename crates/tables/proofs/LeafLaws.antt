@@ -1,9 +1,8 @@
 -- A token's cells, one after the other, in the form of what the code has in hand.
--- Assumes nothing.
 use mathlib.Core.Path.{_≡_, refl, sym, ap, _∙_, subst}
 use mathlib.Core.Bool.{Bool, true, false, cond}
 use mathlib.Core.List.{List, [], _∷_, _++_, map, append-assoc, append-nil, map-append}
-use Prim.Native.Nat.{ℕ, zero, suc, _+_, _-_, _*_, _%_, _<_, _≤_}
+use Prim.Native.Nat.{ℕ, suc, _+_, _-_, _*_, _<_, _≤_}
 use native.Mathlib.Numerals.{add-one}
 use native.Mathlib.Nat.{sub-zero}
 use native.Mathlib.Omega.{arith}
@@ -20,12 +19,12 @@ use Rattle.turtle.specs.declared.letter.Stroke.{Stroke}
 use Rattle.turtle.specs.declared.letter.Flavor.{Flavor}
 use Rattle.turtle.specs.declared.letter.Letter.{Letter}
 use Rattle.turtle.specs.declared.walk.Turtle.{Turtle}
-use Rattle.turtle.specs.declared.walk.Cell.{Cell}
+use Rattle.turtle.specs.declared.walk.DrawnCell.{DrawnCell}
 use Rattle.turtle.specs.declared.walk.Corners.{Corners}
 use Rattle.turtle.specs.declared.walk.Stepped.{Stepped}
 use Rattle.turtle.specs.declared.walk.Hosted.{Hosted}
-use Rattle.turtle.specs.Plane.{ab, origin, _⊕_, rots, facing}
-use Rattle.turtle.specs.Sizes.{Within, Small, SmallStroke}
+use Rattle.turtle.specs.Plane.{ab, origin, facing}
+use Rattle.turtle.specs.Inside.Sizes.{Within, Small}
 use Rattle.turtle.specs.Letters.{strokeOf}
 use Rattle.turtle.specs.Walk.{Sym, left, right, letter, drawn, symbolOf, symbolsOf, turtle, start, move, corner, corners, cell, cells, final, stepBy, stepOf, cornersOf}
 use Rattle.turtle.proofs.WalkLaws.{v-small, small-more, add-small, rots-small}
@@ -33,23 +32,23 @@ use Rattle.turtle.proofs.SymbolLaws.{symbols-append}
 use Rattle.turtle.proofs.WordLaws.{final-append, cells-append}
 use Rattle.turtle.proofs.LetterLaws.{stroke-small}
 use Rattle.classifier.specs.declared.Corner.{Corner}
-use Rattle.classifier.specs.Parts.{pointOf}
+use Rattle.classifier.specs.Shapes.{pointOf}
 use Rattle.grammar.specs.Texts.{linesOf}
-use Rattle.grammar.specs.Curves.{letters, strokes, drawing, letterOf}
+use Rattle.grammar.specs.Curves.{letterCount, strokes, drawing, letterOf}
 use Rattle.grammar.specs.Tests.{fine}
-use Rattle.grammar.specs.TextParts.{linesBy}
+use Rattle.grammar.specs.Inside.Places.{linesBy}
 use Rattle.grammar.proofs.GrammarLaws.{letters-append, length-cells}
 use Rattle.grammar.proofs.Meaning.{accepted, linked}
 use Rattle.grammar.proofs.NetLaws.{one-symbol, step-near, corners-near}
 use Rattle.tables.specs.declared.Drawn.{Drawn}
 use Rattle.tables.specs.declared.Source.{Source}
-use Rattle.tables.specs.declared.leaves.Walk.{Walk}
-use Rattle.tables.specs.Hulls.{footprint}
+use Rattle.tables.specs.declared.leaves.CellWalk.{CellWalk}
+use Rattle.tables.specs.Classifier.{footprint}
 use Rattle.tables.specs.Table.{flavorNumber}
-use Rattle.tables.specs.Sources.{Ready}
+use Rattle.tables.specs.Inside.Sources.{Ready}
 use Rattle.tables.proofs.Follow.{drawing-length}
-use Rattle.tables.proofs.MeetingLaws.{length-letters, letter-is}
-use Rattle.tables.specs.Leaves.{Fit, cornersIn, sumsIn, flavorsIn, Hosts, Added, Onward, IsDrawn}
+use Rattle.tables.proofs.RuleChildLaws.{length-letters, letter-is}
+use Rattle.tables.specs.Inside.Leaves.{CellsFit, cornersIn, sumsIn, flavorsIn, Hosts, CellAdded, CellsOnward, IsDrawn}
 
 -- ---- a pair that fits i8
 module _ {p : AB} (s : Small 120 p) where
@@ -78,7 +77,7 @@ flavor-none e = rw e refl
 abbrev zero-corner : Corner
 zero-corner = record { a = pos 0; b = pos 0 }
 
-abbrev zeros : Turtle → Walk
+abbrev zeros : Turtle → CellWalk
 zeros t =
     let four : List Corner = zero-corner ∷ zero-corner ∷ zero-corner ∷ zero-corner ∷ [] in
     record { turtle = t; corners = four ++ four ++ four; sums = four; flavors = pos 0 ∷ pos 0 ∷ pos 0 ∷ pos 0 ∷ []; count = 0 }
@@ -88,7 +87,7 @@ unfolding facing
 facing-small true = omega arith
 facing-small false = omega arith
 
-pub starts : (f : Bool) {p : AB} {h : ℕ} → p ≡ ab (pos 0) (pos 0) → h ≡ facing f → Fit (zeros (turtle p h)) × (_≡_ {A = ℕ} 0 0 × (turtle p h ≡ turtle origin (facing f)))
+pub starts : (f : Bool) {p : AB} {h : ℕ} → p ≡ ab (pos 0) (pos 0) → h ≡ facing f → CellsFit (zeros (turtle p h)) × (_≡_ {A = ℕ} 0 0 × (turtle p h ≡ turtle origin (facing f)))
 unfolding origin
 starts f e g = rw (e, g) (record { corners = refl; sums = refl; flavors = refl; small = record { a = none; b = none; sum = none }; faces = facing-small f }, (refl, refl))
   where
@@ -114,10 +113,10 @@ three-more l n p q r h =
     ap (λ i. take i (set l2 (3 * n + 2) r)) k ∙ third ∙ ap (λ t. t ++ (r ∷ [])) (ap (λ i. take i l2) k2 ∙ second ∙ ap (λ t. t ++ (q ∷ [])) (ap (λ i. take i l1) k1 ∙ first))
     ∙ append-assoc (take (3 * n) l ++ (p ∷ [])) (q ∷ []) (r ∷ []) ∙ append-assoc (take (3 * n) l) (p ∷ []) (q ∷ r ∷ [])
 
-module _ (k : Walk) (c : Corners) (d : Cell) (t : Turtle) (fit : Fit k) (room : k .count < 4) where
+module _ (k : CellWalk) (c : Corners) (d : DrawnCell) (t : Turtle) (fit : CellsFit k) (room : k .count < 4) where
   pub added : {p q r s : Corner} {f z : ℤ} → pointOf p ≡ c .p → pointOf q ≡ c .q → pointOf r ≡ c .r → pointOf s ≡ d .sum → f ≡ flavorNumber (d .flavor) → SFits w32 f →
       z ≡ toZ w32 (ofZ w32 f) →
-      Added k c d t (record {
+      CellAdded k c d t (record {
         turtle = t;
         corners = set (set (set (k .corners) (3 * k .count) p) (3 * k .count + 1) q) (3 * k .count + 2) r;
         sums = set (k .sums) (k .count) s;
@@ -136,7 +135,7 @@ module _ (k : Walk) (c : Corners) (d : Cell) (t : Turtle) (fit : Fit k) (room : 
   }
 
 -- ---- a step near the origin
-near : (k : Walk) → Fit k → k .count ≤ 4 → Small 65536 (k .turtle .at) × (k .turtle .heading < 6)
+near : (k : CellWalk) → CellsFit k → k .count ≤ 4 → Small 65536 (k .turtle .at) × (k .turtle .heading < 6)
 near k fit few = (small-more (omega arith) (fit .small), fit .faces)
 
 pub symbol-letter : (b : ℕ) (s : Stroke) → symbolOf b ≡ letter s ∷ [] → Letter.Draws s ≡ strokeOf b
@@ -150,32 +149,32 @@ symbol-letter b s e = go (eqb b 43) (eqb b 45) (strokeOf b) e
     go false false Letter.NoDraw e = absurd (let z : _≡_ {A = ℕ} 0 1 = cc in omega arith)
 
 -- the stroke that a step drew
-pub record Struck (b : ℕ) (t : Turtle) (c : Cell) (n : Turtle) : Type 0 where
+pub record Struck (b : ℕ) (t : Turtle) (c : DrawnCell) (n : Turtle) : Type 0 where
   pub stroke : Stroke
   pub symbol : symbolOf b ≡ letter stroke ∷ []
   pub drawn : c ≡ cell stroke t
   pub moved : n ≡ move (letter stroke) t
 
-struck-by : (b : ℕ) (t : Turtle) (c : Cell) (n : Turtle) (w : List (Sym Stroke)) → length w ≤ 1 → symbolOf b ≡ w → Stepped.Drew c n ≡ stepBy w t → Struck b t c n
+struck-by : (b : ℕ) (t : Turtle) (c : DrawnCell) (n : Turtle) (w : List (Sym Stroke)) → length w ≤ 1 → symbolOf b ≡ w → Stepped.Drew c n ≡ stepBy w t → Struck b t c n
 struck-by b t c n [] h e f = absurd (let z : _≡_ {A = ℕ} 0 1 = cc in omega arith)
 struck-by b t c n (left ∷ w) h e f = absurd (let z : _≡_ {A = ℕ} 0 1 = cc in omega arith)
 struck-by b t c n (right ∷ w) h e f = absurd (let z : _≡_ {A = ℕ} 0 1 = cc in omega arith)
 struck-by b t c n (letter s ∷ []) h e f = record { stroke = s; symbol = e; drawn = cc; moved = cc }
 struck-by b t c n (letter s ∷ a ∷ w) h e f = absurd (omega arith)
 
-module _ (k : Walk) (b : ℕ) (fit : Fit k) (few : k .count + letters (symbolOf b) ≤ 4) {s : Stepped} (step : s ≡ stepOf b (k .turtle)) where
+module _ (k : CellWalk) (b : ℕ) (fit : CellsFit k) (few : k .count + letterCount (symbolOf b) ≤ 4) {s : Stepped} (step : s ≡ stepOf b (k .turtle)) where
   pub near-here : Small 65536 (k .turtle .at) × (k .turtle .heading < 6)
   near-here = near k fit (omega arith)
 
   stepped : s ≡ stepBy (symbolOf b) (k .turtle)
   stepped = step ∙ step-near b (k .turtle) near-here
 
-  module _ {c : Cell} {n : Turtle} (drew : s ≡ Stepped.Drew c n) where
+  module _ {c : DrawnCell} {n : Turtle} (drew : s ≡ Stepped.Drew c n) where
     pub struck : Struck b (k .turtle) c n
     struck = struck-by b (k .turtle) c n (symbolOf b) (one-symbol b) refl (sym drew ∙ stepped)
 
     pub drew-room : k .count < 4
-    unfolding letters
+    unfolding letterCount
     drew-room = let h : k .count + 1 ≤ 4 = rw (struck .symbol) at few in omega arith
 
     abbrev pub drew-hosts : {h : Hosted} → h ≡ cornersOf b (k .turtle) → Hosts (k .turtle) h c n
@@ -190,7 +189,7 @@ module _ (k : Walk) (b : ℕ) (fit : Fit k) (few : k .count + letters (symbolOf 
         }
 
 -- ---- the cell of a stroke
-module _ (k : Walk) (fit : Fit k) (few : k .count < 4) {h : Hosted} {d : Cell} {t : Turtle} (hosts : Hosts (k .turtle) h d t) where
+module _ (k : CellWalk) (fit : CellsFit k) (few : k .count < 4) {h : Hosted} {d : DrawnCell} {t : Turtle} (hosts : Hosts (k .turtle) h d t) where
   abbrev stroke : Stroke
   stroke = hosts .stroke
 
@@ -207,8 +206,8 @@ module _ (k : Walk) (fit : Fit k) (few : k .count < 4) {h : Hosted} {d : Cell} {
       let r = corner-small (hosts .small .r) in
       (rw same (small-more (omega arith) p, (small-more (omega arith) q, small-more (omega arith) r)), subst (λ d. Small 120 (d .sum)) (sym (hosts .drawn)) (small-more (omega arith) (add-small (add-small p q) r)))
 
-  pub hosted-same : {c : Corners} → h ≡ Hosted.Corners c → {n : Walk} → Added k c d t n → (e : Corners) → h ≡ Hosted.Corners e → Added k e d t n
-  hosted-same {c} f {n} a e g = let same : c ≡ e = (let i = sym f ∙ g in cc) in subst (λ e. Added k e d t n) same a
+  pub hosted-same : {c : Corners} → h ≡ Hosted.Corners c → {n : CellWalk} → CellAdded k c d t n → (e : Corners) → h ≡ Hosted.Corners e → CellAdded k e d t n
+  hosted-same {c} f {n} a e g = let same : c ≡ e = (let i = sym f ∙ g in cc) in subst (λ e. CellAdded k e d t n) same a
 
   pub hosted-none : h ≡ Hosted.NoDraw → ⊥
   hosted-none e = let f = sym e ∙ hosts .hosted in let z : _≡_ {A = ℕ} 0 1 = cc in omega arith
@@ -216,8 +215,8 @@ module _ (k : Walk) (fit : Fit k) (few : k .count < 4) {h : Hosted} {d : Cell} {
   pub hosted-lost : h ≡ Hosted.Lost → ⊥
   hosted-lost e = let f = sym e ∙ hosts .hosted in let z : _≡_ {A = ℕ} 0 1 = cc in omega arith
 
-  pub hosted-onward : {n : Walk} → ((c : Corners) → h ≡ Hosted.Corners c → Added k c d t n) → Onward k (letter stroke ∷ []) n
-  unfolding letters footprint cells corners cell move final
+  pub hosted-onward : {n : CellWalk} → ((c : Corners) → h ≡ Hosted.Corners c → CellAdded k c d t n) → CellsOnward k (letter stroke ∷ []) n
+  unfolding letterCount footprint cells corners cell move final
   hosted-onward {n} added =
       let a = added (corners stroke (k .turtle)) (hosts .hosted) in
       record {
@@ -236,13 +235,13 @@ module _ (k : Walk) (fit : Fit k) (few : k .count < 4) {h : Hosted} {d : Cell} {
       }
 
 -- ---- a turn, and a byte that is passed over
-module _ (k : Walk) (fit : Fit k) where
-  module _ {n : Walk} (t : Turtle) (made : n ≡ record { turtle = t; corners = k .corners; sums = k .sums; flavors = k .flavors; count = k .count }) where
-    turned-fit : t .at ≡ k .turtle .at → t .heading < 6 → Fit n
+module _ (k : CellWalk) (fit : CellsFit k) where
+  module _ {n : CellWalk} (t : Turtle) (made : n ≡ record { turtle = t; corners = k .corners; sums = k .sums; flavors = k .flavors; count = k .count }) where
+    turned-fit : t .at ≡ k .turtle .at → t .heading < 6 → CellsFit n
     turned-fit e h = rw made record { corners = fit .corners; sums = fit .sums; flavors = fit .flavors; small = rw e (fit .small); faces = h }
 
-    pub left-onward : t ≡ move left (k .turtle) → Onward k (left ∷ []) n
-    unfolding letters footprint cells move final
+    pub left-onward : t ≡ move left (k .turtle) → CellsOnward k (left ∷ []) n
+    unfolding letterCount footprint cells move final
     left-onward e =
         rw made
         record {
@@ -254,8 +253,8 @@ module _ (k : Walk) (fit : Fit k) where
           turtle = e;
         }
 
-    pub right-onward : t ≡ move right (k .turtle) → Onward k (right ∷ []) n
-    unfolding letters footprint cells move final
+    pub right-onward : t ≡ move right (k .turtle) → CellsOnward k (right ∷ []) n
+    unfolding letterCount footprint cells move final
     right-onward e =
         rw made
         record {
@@ -267,12 +266,12 @@ module _ (k : Walk) (fit : Fit k) where
           turtle = e;
         }
 
-  pub none-onward : Onward k [] k
-  unfolding letters footprint cells final
+  pub none-onward : CellsOnward k [] k
+  unfolding letterCount footprint cells final
   none-onward = record { fit = fit; count = omega arith; corners = sym (append-nil _); sums = sym (append-nil _); flavors = sym (append-nil _); turtle = refl }
 
-turn-by : (k : Walk) (fit : Fit k) (t : Turtle) (w : List (Sym Stroke)) → length w ≤ 1 → Stepped.Turned t ≡ stepBy w (k .turtle)
-    → {n : Walk} → n ≡ record { turtle = t; corners = k .corners; sums = k .sums; flavors = k .flavors; count = k .count } → Onward k w n
+turn-by : (k : CellWalk) (fit : CellsFit k) (t : Turtle) (w : List (Sym Stroke)) → length w ≤ 1 → Stepped.Turned t ≡ stepBy w (k .turtle)
+    → {n : CellWalk} → n ≡ record { turtle = t; corners = k .corners; sums = k .sums; flavors = k .flavors; count = k .count } → CellsOnward k w n
 turn-by k fit t [] h e made = absurd (let z : _≡_ {A = ℕ} 0 1 = cc in omega arith)
 turn-by k fit t (left ∷ []) h e made = left-onward k fit t made cc
 turn-by k fit t (right ∷ []) h e made = right-onward k fit t made cc
@@ -280,7 +279,7 @@ turn-by k fit t (letter s ∷ w) h e made = absurd (let z : _≡_ {A = ℕ} 0 1 
 turn-by k fit t (left ∷ a ∷ w) h e made = absurd (omega arith)
 turn-by k fit t (right ∷ a ∷ w) h e made = absurd (omega arith)
 
-none-by : (k : Walk) (fit : Fit k) (w : List (Sym Stroke)) → Stepped.NoDraw ≡ stepBy w (k .turtle) → Onward k w k
+none-by : (k : CellWalk) (fit : CellsFit k) (w : List (Sym Stroke)) → Stepped.NoDraw ≡ stepBy w (k .turtle) → CellsOnward k w k
 none-by k fit [] e = none-onward k fit
 none-by k fit (left ∷ w) e = absurd (let z : _≡_ {A = ℕ} 0 1 = cc in omega arith)
 none-by k fit (right ∷ w) e = absurd (let z : _≡_ {A = ℕ} 0 1 = cc in omega arith)
@@ -293,16 +292,16 @@ lost-by t (right ∷ w) e = let z : _≡_ {A = ℕ} 0 1 = cc in omega arith
 lost-by t (letter s ∷ w) e = let z : _≡_ {A = ℕ} 0 1 = cc in omega arith
 
 -- ---- the cases of a byte
-module _ (k : Walk) (b : ℕ) (fit : Fit k) (few : k .count + letters (symbolOf b) ≤ 4) {s : Stepped} (step : s ≡ stepOf b (k .turtle)) where
-  pub byte-drew : {c : Cell} {n : Turtle} → s ≡ Stepped.Drew c n → {h : Hosted} → h ≡ cornersOf b (k .turtle) → {m : Walk} → ((cs : Corners) → h ≡ Hosted.Corners cs → Added k cs c n m) → Onward k (symbolOf b) m
+module _ (k : CellWalk) (b : ℕ) (fit : CellsFit k) (few : k .count + letterCount (symbolOf b) ≤ 4) {s : Stepped} (step : s ≡ stepOf b (k .turtle)) where
+  pub byte-drew : {c : DrawnCell} {n : Turtle} → s ≡ Stepped.Drew c n → {h : Hosted} → h ≡ cornersOf b (k .turtle) → {m : CellWalk} → ((cs : Corners) → h ≡ Hosted.Corners cs → CellAdded k cs c n m) → CellsOnward k (symbolOf b) m
   byte-drew e f added =
       let hosts = drew-hosts k b fit few step e f in
       rw (struck k b fit few step e .symbol) (hosted-onward k fit (drew-room k b fit few step e) hosts added)
 
-  pub byte-turned : {t : Turtle} → s ≡ Stepped.Turned t → {n : Walk} → n ≡ record { turtle = t; corners = k .corners; sums = k .sums; flavors = k .flavors; count = k .count } → Onward k (symbolOf b) n
+  pub byte-turned : {t : Turtle} → s ≡ Stepped.Turned t → {n : CellWalk} → n ≡ record { turtle = t; corners = k .corners; sums = k .sums; flavors = k .flavors; count = k .count } → CellsOnward k (symbolOf b) n
   byte-turned {t} e made = turn-by k fit t (symbolOf b) (one-symbol b) (sym e ∙ stepped k b fit few step) made
 
-  pub byte-none : s ≡ Stepped.NoDraw → Onward k (symbolOf b) k
+  pub byte-none : s ≡ Stepped.NoDraw → CellsOnward k (symbolOf b) k
   byte-none e = none-by k fit (symbolOf b) (sym e ∙ stepped k b fit few step)
 
   pub byte-lost : s ≡ Stepped.Lost → ⊥
@@ -317,21 +316,21 @@ footprint-append (right ∷ u) v t = footprint-append u v (move right t)
 footprint-append (letter s ∷ u) v t = ap (λ l. corner t (s .p) ∷ corner t (s .q) ∷ corner t (s .r) ∷ l) (footprint-append u v (move (letter s) t))
 
 -- from t on along u
-pub record Walked (u : List (Sym Stroke)) (t : Turtle) (k : Walk) : Type 0 where
-  pub fit : Fit k
-  pub count : k .count ≡ letters u
+pub record Walked (u : List (Sym Stroke)) (t : Turtle) (k : CellWalk) : Type 0 where
+  pub fit : CellsFit k
+  pub count : k .count ≡ letterCount u
   pub corners : cornersIn k ≡ footprint u t
   pub sums : sumsIn k ≡ map (λ c. c .sum) (cells u t)
   pub flavors : flavorsIn k ≡ map (λ c. flavorNumber (c .flavor)) (cells u t)
   pub turtle : k .turtle ≡ final u t
 
-pub walked-start : (w : List ℕ) (t : Turtle) {k : Walk} → Fit k × ((k .count ≡ 0) × (k .turtle ≡ t)) → Walked (symbolsOf (take 0 w)) t k
-unfolding symbolsOf letters footprint cells final
+pub walked-start : (w : List ℕ) (t : Turtle) {k : CellWalk} → CellsFit k × ((k .count ≡ 0) × (k .turtle ≡ t)) → Walked (symbolsOf (take 0 w)) t k
+unfolding symbolsOf letterCount footprint cells final
 walked-start w t {k} e =
     let none : 3 * k .count ≡ 0 = omega (arith, e .1 .0) in
     record { fit = e .0; count = e .1 .0; corners = rw none refl; sums = rw (e .1 .0) refl; flavors = rw (e .1 .0) refl; turtle = e .1 .1 }
 
-module _ (w : List ℕ) (t : Turtle) {k : Walk} {i : ℕ} (so-far : Walked (symbolsOf (take i w)) t k) (h : i < length w) where
+module _ (w : List ℕ) (t : Turtle) {k : CellWalk} {i : ℕ} (so-far : Walked (symbolsOf (take i w)) t k) (h : i < length w) where
   abbrev past : List (Sym Stroke)
   past = symbolsOf (take i w)
 
@@ -345,13 +344,13 @@ module _ (w : List ℕ) (t : Turtle) {k : Walk} {i : ℕ} (so-far : Walked (symb
   rest-is : symbolsOf w ≡ symbolsOf (take (suc i) w) ++ symbolsOf (drop (suc i) w)
   rest-is = ap symbolsOf (sym (take-append-drop (suc i) w)) ∙ symbols-append (take (suc i) w) (drop (suc i) w)
 
-  pub walked-room : letters (symbolsOf w) ≡ 4 → k .count + letters here ≤ 4
-  walked-room f = omega (arith, so-far .count, f, ap letters rest-is, letters-append (symbolsOf (take (suc i) w)) (symbolsOf (drop (suc i) w)), ap letters next-is, letters-append past here)
+  pub walked-room : letterCount (symbolsOf w) ≡ 4 → k .count + letterCount here ≤ 4
+  walked-room f = omega (arith, so-far .count, f, ap letterCount rest-is, letters-append (symbolsOf (take (suc i) w)) (symbolsOf (drop (suc i) w)), ap letterCount next-is, letters-append past here)
 
-  cells-more : {A : Type 0} (f : Cell → A) → map f (cells (past ++ here) t) ≡ map f (cells past t) ++ map f (cells here (final past t))
+  cells-more : {A : Type 0} (f : DrawnCell → A) → map f (cells (past ++ here) t) ≡ map f (cells past t) ++ map f (cells here (final past t))
   cells-more f = rw cells-append (map-append f (cells past t) (cells here (final past t)))
 
-  pub walked-next : {n : Walk} → Onward k here n → Walked (symbolsOf (take (i + 1) w)) t n
+  pub walked-next : {n : CellWalk} → CellsOnward k here n → Walked (symbolsOf (take (i + 1) w)) t n
   walked-next {n} o =
       let all : past ++ here ≡ symbolsOf (take (i + 1) w) = rw add-one (sym next-is) in
       subst (λ u. Walked u t n) all
@@ -364,11 +363,11 @@ module _ (w : List ℕ) (t : Turtle) {k : Walk} {i : ℕ} (so-far : Walked (symb
         turtle = o .turtle ∙ rw (so-far .turtle) (sym (final-append past here t));
       }
 
-module _ (w : List ℕ) (t : Turtle) {k : Walk} {i : ℕ} (so-far : Walked (symbolsOf (take i w)) t k) (four : letters (symbolsOf w) ≡ 4) (h : length w ≤ i) where
+module _ (w : List ℕ) (t : Turtle) {k : CellWalk} {i : ℕ} (so-far : Walked (symbolsOf (take i w)) t k) (four : letterCount (symbolsOf w) ≡ 4) (h : length w ≤ i) where
   all : take i w ≡ w
   all = take-all i w h
 
-  pub walked-four : Fit k × (k .count ≡ 4)
+  pub walked-four : CellsFit k × (k .count ≡ 4)
   walked-four = (so-far .fit, so-far .count ∙ rw all four)
 
   pub walked-end : {d : Drawn} → (d .corners ≡ k .corners) × ((d .sums ≡ k .sums) × ((d .flavors ≡ k .flavors) × (pointOf (d .end) ≡ k .turtle .at))) → IsDrawn (symbolsOf w) t d
@@ -385,7 +384,7 @@ module _ (w : List ℕ) (t : Turtle) {k : Walk} {i : ℕ} (so-far : Walked (symb
       }
 
 -- ---- a token's strokes
-pub four-strokes : {text : List ℕ} {s : Source} (r : Ready text s) (m : ℕ) → m < s .count → letters (strokes (linesOf text) 1 (letterOf (linesOf text) m)) ≡ 4
+pub four-strokes : {text : List ℕ} {s : Source} (r : Ready text s) (m : ℕ) → m < s .count → letterCount (strokes (linesOf text) 1 (letterOf (linesOf text) m)) ≡ 4
 unfolding drawing
 four-strokes {text} r m h =
     sym (length-cells (strokes (linesOf text) 1 (letterOf (linesOf text) m)) start)
@@ -396,8 +395,8 @@ module _ {text : List ℕ} {s : Source} (r : Ready text s) (m : ℕ) (h : m < s 
   strokes-of : symbolsOf (take (n - 0) last) ≡ strokes (linesOf text) 1 (letterOf (linesOf text) m)
   strokes-of = rw sub-zero (e ∙ rw (r .lines, letter-is r m h) refl)
 
-  pub strokes-four : letters (symbolsOf (take (n - 0) last)) ≡ 4
-  strokes-four = ap letters strokes-of ∙ four-strokes r m h
+  pub strokes-four : letterCount (symbolsOf (take (n - 0) last)) ≡ 4
+  strokes-four = ap letterCount strokes-of ∙ four-strokes r m h
 
   pub strokes-drawn : {t : Turtle} {d : Drawn} → IsDrawn (symbolsOf (take (n - 0) last)) t d → IsDrawn (strokes (linesOf text) 1 (letterOf (linesOf text) m)) t d
   strokes-drawn {t} {d} i = subst (λ w. IsDrawn w t d) strokes-of i

@@ -1,5 +1,4 @@
 -- Tests at every number below a bound, part by part; and what a readable state's tests say of each of its entries.
--- Assumes nothing.
 use mathlib.Core.Path.{_≡_, refl, subst}
 use mathlib.Core.Bool.{Bool, false, _&&_}
 use mathlib.Core.List.{List}

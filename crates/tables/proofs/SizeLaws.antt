@@ -1,6 +1,5 @@
 -- How large the numbers of an accepted grammar are: a token's rule has four children, each drawn by one stroke, and no step or corner of a
 -- stroke is above 8. So nets after one pass are within 32, offsets and leaves' corner sums within 96; and leaves have flavors.
--- Assumes nothing.
 use mathlib.Core.Path.{_≡_, refl, sym, _∙_, subst}
 use mathlib.Core.Bool.{Bool, true, false}
 use mathlib.Core.List.{List, [], _∷_}
@@ -17,17 +16,17 @@ use Rattle.turtle.specs.declared.walk.Turtle.{Turtle}
 use Rattle.turtle.specs.Plane.{origin, rots, signed, facing}
 use Rattle.turtle.specs.Letters.{toggled}
 use Rattle.turtle.specs.Walk.{Sym, left, right, letter, turtle, start, move, corner, turnedFlavor, cell, cells, final}
-use Rattle.turtle.specs.Sizes.{Within, Small, SmallStroke}
+use Rattle.turtle.specs.Inside.Sizes.{Within, Small, SmallStroke}
 use Rattle.turtle.proofs.PlaneLaws.{rots-flip}
 use Rattle.turtle.proofs.WalkLaws.{v-small, small-more, rots-small, add-small}
 use Rattle.grammar.specs.Texts.{Line, linesOf}
-use Rattle.grammar.specs.Curves.{strokes, drawing, net, tokenBytes, letterOf, letters}
+use Rattle.grammar.specs.Curves.{strokes, drawing, net, tokenBytes, letterOf, letterCount}
 use Rattle.grammar.specs.Tests.{fine}
 use Rattle.grammar.proofs.Grammars.{grammarOf, Upright, Accepted}
 use Rattle.grammar.proofs.GrammarLaws.{length-cells}
 use Rattle.grammar.proofs.StrokeLaws.{Every, every-stroke, strokes-small, isFlavor, Flavored, flavored}
 use Rattle.grammar.proofs.Meaning.{accepted, linked}
-use Rattle.tables.specs.Children.{met, children, offsetAfter, offset, leaves, leaf, noCell}
+use Rattle.tables.specs.Children.{childrenAlong, children, offsetAfter, offset, leaves, leaf, noCell}
 use Rattle.tables.specs.Verdicts.{splitTests, verdict}
 use Rattle.tables.proofs.Drawing.{drawing-length}
 
@@ -55,8 +54,8 @@ pub small-abs : {n : ℕ} {p : AB} → Small n p → (natAbs (p .a) ≤ n) × (n
 small-abs s = (abs-within (s .a), abs-within (s .b))
 
 -- ---- a walk of short strokes, from a place that is at most k in size: 8 more for each stroke
-pub final-small : (w : List (Sym Stroke)) (t : Turtle) {k : ℕ} → Every SmallStroke w → Small k (t .at) → Small (k + 8 * letters w) (final w t .at)
-unfolding final move letters
+pub final-small : (w : List (Sym Stroke)) (t : Turtle) {k : ℕ} → Every SmallStroke w → Small k (t .at) → Small (k + 8 * letterCount w) (final w t .at)
+unfolding final move letterCount
 final-small [] t e s = small-more (omega arith) s
 final-small (left ∷ w) t e s = final-small w (move left t) e s
 final-small (right ∷ w) t e s = final-small w (move right t) e s
@@ -70,8 +69,8 @@ corner-small t s h = add-small s (rots-small (t .heading) h)
 more : (k n : ℕ) {p : AB} → Small (k + 8) p → Small (k + 8 * suc n) p
 more k n s = small-more (omega arith) s
 
-pub cell-small : (w : List (Sym Stroke)) (t : Turtle) {k : ℕ} → Every SmallStroke w → Small k (t .at) → (d : ℕ) → Small (3 * (k + 8 * letters w)) (getD (cells w t) d noCell .sum)
-unfolding cells cell move letters
+pub cell-small : (w : List (Sym Stroke)) (t : Turtle) {k : ℕ} → Every SmallStroke w → Small k (t .at) → (d : ℕ) → Small (3 * (k + 8 * letterCount w)) (getD (cells w t) d noCell .sum)
+unfolding cells cell move letterCount
 cell-small [] t e s d = origin-small
 cell-small (left ∷ w) t e s d = cell-small w (move left t) e s d
 cell-small (right ∷ w) t e s d = cell-small w (move right t) e s d
@@ -86,8 +85,8 @@ unfolding turnedFlavor toggled
 turned-flavor h (Flavor.Of f) t = let b = ltb→lt f 4 t in lt→ltb (f / 2 * 2 + (f + h) % 2) 4 (omega arith)
 turned-flavor h Flavor.None t = t
 
-pub cell-flavored : (w : List (Sym Stroke)) (t : Turtle) → Every Flavored w → (d : ℕ) → d < letters w → T (isFlavor (getD (cells w t) d noCell .flavor))
-unfolding cells cell letters
+pub cell-flavored : (w : List (Sym Stroke)) (t : Turtle) → Every Flavored w → (d : ℕ) → d < letterCount w → T (isFlavor (getD (cells w t) d noCell .flavor))
+unfolding cells cell letterCount
 cell-flavored [] t e d b = let none : ⊥ = omega arith in absurd none
 cell-flavored (left ∷ w) t e d b = cell-flavored w (move left t) e d b
 cell-flavored (right ∷ w) t e d b = cell-flavored w (move right t) e d b
@@ -104,7 +103,7 @@ module _ (text : List ℕ) (p : verdict text ≡ fine) where
   short r b = strokes-small _
 
   -- r passes draw 4 ^ r strokes
-  pub strokes-many : (r m : ℕ) → m < length (tokenBytes ls) → letters (strokes ls r (letterOf ls m)) ≡ 4 ^ r
+  pub strokes-many : (r m : ℕ) → m < length (tokenBytes ls) → letterCount (strokes ls r (letterOf ls m)) ≡ 4 ^ r
   unfolding drawing
   strokes-many r m b = sym (length-cells (strokes ls r (letterOf ls m)) start) ∙ drawing-length text p r m b
 
@@ -116,8 +115,8 @@ module _ (text : List ℕ) (p : verdict text ≡ fine) where
   pub once-small : (m : ℕ) → m < length (tokenBytes ls) → Small 32 (net ls 1 (letterOf ls m))
   once-small m b = net-small 1 m b
 
-  after-small : (h : ℕ) (w : List (Sym ℕ)) (d : ℕ) → Upright (grammarOf ls) h w → Small (32 * d) (offsetAfter ls 1 (met h w) d)
-  unfolding grammarOf Upright met offsetAfter
+  after-small : (h : ℕ) (w : List (Sym ℕ)) (d : ℕ) → Upright (grammarOf ls) h w → Small (32 * d) (offsetAfter ls 1 (childrenAlong h w) d)
+  unfolding grammarOf Upright childrenAlong offsetAfter
   after-small h [] zero u = origin-small
   after-small h [] (suc d) u = origin-small
   after-small h (left ∷ w) d u = after-small ((h + 1) % 6) w d u

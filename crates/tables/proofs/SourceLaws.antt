@@ -1,31 +1,29 @@
 -- A source's tokens, one letter after the other, in the form of what the code has in hand.
--- Assumes nothing.
 use mathlib.Core.Path.{_≡_, refl, sym, ap, _∙_}
 use mathlib.Core.Bool.{Bool, true, false, cond}
 use mathlib.Core.List.{List, [], _∷_, _++_, map, append-assoc, append-nil}
-use Prim.Native.Nat.{ℕ, zero, suc, _+_, _-_, _<_, _≤_, min}
+use Prim.Native.Nat.{ℕ, zero, suc, _+_, _-_, _*_, _<_, _≤_, min}
 use native.Mathlib.Numerals.{add-one}
 use native.Mathlib.Nat.{sub-zero}
 use native.Mathlib.Omega.{arith}
-use lib.Dec.{eqb}
-use lib.ListN.{length, getD, take, drop, set, length-set, drop-of-length-le}
+use lib.ListN.{length, getD, take, drop, set, length-set, length-take, drop-of-length-le}
 use lib.Seq.{drop-cons, take-suc-set, length-take-le, getD-take}
-use borrow.Author.Tests.{eq-eqb, ne-eqb, le-ltb}
-use Rattle.triple.specs.Refusals.{told}
+use borrow.Author.Tests.{eq-eqb, ne-eqb}
 use Rattle.grammar.specs.declared.word.WordAnswer.{WordAnswer}
-use Rattle.grammar.specs.WordAnswers.{saidWord, writtenTo}
+use Rattle.grammar.specs.WordAnswers.{saidWord, written, writtenTo, afterWord}
 use Rattle.grammar.specs.declared.lines.Lines.{Lines}
 use Rattle.turtle.specs.Walk.{symbolsOf}
 use Rattle.grammar.specs.declared.word.Book.{Book}
 use Rattle.grammar.specs.Words.{upper, expandOnce}
 use Rattle.grammar.specs.Books.{bookOf}
-use Rattle.grammar.specs.Curves.{rules, passes, strokes, isNamed, namedFrom, tokenBytes, place}
-use Rattle.grammar.specs.TextParts.{linesBy, hasName, Sized, drawBook}
+use Rattle.grammar.specs.Curves.{rules, passes, strokes, isNamed, namedFrom, tokenBytes, placeIn}
+use Rattle.grammar.specs.Inside.Places.{linesBy, Sized}
+use Rattle.grammar.specs.Scans.{hasName, ruleBook, drawBook}
 use Rattle.grammar.proofs.TallyLaws.{listed-by}
-use Rattle.grammar.proofs.NetLaws.{rule-pass-most, draw-pass-most, drawn-pass}
-use Rattle.grammar.proofs.WordLaws.{upper-before, upper-lower}
+use Rattle.grammar.proofs.BookPassLaws.{rules-written, rules-count, draws-written, draws-count}
+use Rattle.grammar.proofs.WordByteLaws.{upper-before, upper-lower}
 use Rattle.tables.specs.declared.Source.{Source}
-use Rattle.tables.specs.Sources.{listedFrom, lettersIn, Holds}
+use Rattle.tables.specs.Inside.Sources.{listedFrom, lettersIn, Holds}
 
 -- ---- one token more
 pub token-more : (s : Source) (b : ℕ) → Holds 51 s →
@@ -115,18 +113,10 @@ module _ (text : List ℕ) (ls : Lines) where
   unfolding tokenBytes
   tokens-are d e = rw (d, e, upper-listed 26 65 (omega arith), lower-listed 26 65 (omega arith) (omega arith)) refl
 
--- ---- a pass into a buffer with room for it
-pub pass-count : (word buffer : List ℕ) (a : WordAnswer) → length word ≤ length buffer → saidWord a ≡ writtenTo word buffer → {n : ℕ} → a ≡ WordAnswer.Written n → n ≤ length buffer
-unfolding writtenTo
-pass-count word buffer a room e {n} w =
-    let said : saidWord a ≡ told (length word) = e ∙ (rw (le-ltb (length buffer) (length word) room) refl) in
-    let long : n ≡ length word = cc said in
-    omega arith
-
 -- ---- a letter's place, among the first n of the bytes
 module _ (bytes : List ℕ) (n b i : ℕ) (room : n ≤ length bytes) where
   abbrev pub placedAt : ℕ
-  placedAt = i + place (drop i (take n bytes)) b
+  placedAt = i + placeIn (drop i (take n bytes)) b
 
   letters-at : i < n → drop i (take n bytes) ≡ getD bytes i 0 ∷ drop (suc i) (take n bytes)
   letters-at h = drop-cons (take n bytes) i 0 (rw (length-take-le n bytes room) h) ∙ ap (λ a. a ∷ drop (suc i) (take n bytes)) (getD-take n bytes i 0 h)
@@ -134,24 +124,39 @@ module _ (bytes : List ℕ) (n b i : ℕ) (room : n ≤ length bytes) where
   pub place-here : i < n → getD bytes i 0 ≡ b → placedAt ≡ i
   place-here h e = rw (letters-at h, eq-eqb (getD bytes i 0) b e) (omega arith)
 
-  pub place-next : i < n → (getD bytes i 0 ≡ b → ⊥) → placedAt ≡ i + 1 + place (drop (i + 1) (take n bytes)) b
+  pub place-next : i < n → (getD bytes i 0 ≡ b → ⊥) → placedAt ≡ i + 1 + placeIn (drop (i + 1) (take n bytes)) b
   place-next h e = rw (add-one, letters-at h, ne-eqb (getD bytes i 0) b e) (omega arith)
 
   pub place-end : n ≤ i → placedAt ≡ i
   place-end h = let z : drop i (take n bytes) ≡ [] = drop-of-length-le (take n bytes) {i = i} (rw (length-take-le n bytes room) h) in rw z (omega arith)
 
--- ---- the strokes of a letter: two passes
-module _ (text : List ℕ) (ls : Lines) (sized : Sized ls) (letter : ℕ) {book : Book} (book-is : book ≡ drawBook ls)
-    (n : ℕ) (once : List ℕ) (filled : take n once ≡ expandOnce (rules (linesBy text ls)) (letter ∷ [])) where
-  abbrev rule-bytes : List ℕ
-  rule-bytes = take (n - 0) once
+-- ---- the rule of a letter: a pass of the rules over it
+module _ (text : List ℕ) {ls : Lines} (sized : Sized ls) (letter : ℕ) {book : Book} (book-is : book ≡ ruleBook ls) (buffer : List ℕ) (a : WordAnswer) {last : List ℕ}
+    (said : saidWord a ≡ writtenTo (expandOnce (bookOf text book) (letter ∷ [])) buffer) (left : last ≡ afterWord (expandOnce (bookOf text book) (letter ∷ [])) buffer)
+    {n : ℕ} (count : n ≡ written (saidWord a)) (room : 24 ≤ length buffer) where
+  pub rule-written : take n last ≡ expandOnce (rules (linesBy text ls)) (letter ∷ [])
+  rule-written = rules-written text sized (letter ∷ []) buffer a said left count book-is (omega arith)
 
-  rule-is : rule-bytes ≡ expandOnce (rules (linesBy text ls)) (letter ∷ [])
-  rule-is = rw sub-zero filled
+  pub rule-count : n ≤ 24
+  rule-count = omega (arith, rules-count text sized (letter ∷ []) buffer a said left count book-is (omega arith))
 
-  pub strokes-room : {room : ℕ} → 288 ≤ room → length (expandOnce (bookOf text book) rule-bytes) ≤ room
-  strokes-room h = rw (drawn-pass text ls sized book-is rule-bytes) (omega (arith, draw-pass-most text ls sized rule-bytes, ap length rule-is, rule-pass-most text ls sized (letter ∷ [])))
+-- ---- its strokes: one of the draws over that
+module _ (text : List ℕ) {ls : Lines} (sized : Sized ls) (letter k : ℕ) (rule : List ℕ) (filled : take k rule ≡ expandOnce (rules (linesBy text ls)) (letter ∷ [])) (few : k ≤ 24)
+    {book : Book} (book-is : book ≡ drawBook ls) (buffer : List ℕ) (a : WordAnswer) {last : List ℕ}
+    (said : saidWord a ≡ writtenTo (expandOnce (bookOf text book) (take (k - 0) rule)) buffer) (left : last ≡ afterWord (expandOnce (bookOf text book) (take (k - 0) rule)) buffer)
+    {n : ℕ} (count : n ≡ written (saidWord a)) (room : 288 ≤ length buffer) where
+  rule-long : length (take (k - 0) rule) ≤ 24
+  rule-long = rw length-take (omega arith)
 
-  pub strokes-are : {last : List ℕ} → last ≡ expandOnce (bookOf text book) rule-bytes → symbolsOf last ≡ strokes (linesBy text ls) 1 letter
+  pub strokes-written : symbolsOf (take n last) ≡ strokes (linesBy text ls) 1 letter
   unfolding strokes passes
-  strokes-are e = rw (e, drawn-pass text ls sized book-is rule-bytes, rule-is) refl
+  strokes-written =
+      let all : 12 * length (take (k - 0) rule) ≤ length buffer = omega (arith, rule-long) in
+      rw (draws-written text sized (take (k - 0) rule) buffer a said left count book-is all, sub-zero, filled) refl
+
+  pub strokes-count : n ≤ 288
+  strokes-count =
+      let all : 12 * length (take (k - 0) rule) ≤ length buffer = omega (arith, rule-long) in
+      omega (arith, rule-long, draws-count text sized (take (k - 0) rule) buffer a said left count book-is all)
+
+pub ruleset passing = (rule-written, rule-count, strokes-written, strokes-count)

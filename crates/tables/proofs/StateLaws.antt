@@ -1,48 +1,50 @@
--- A state's numbers and splits, in the form of what the code has in hand.
--- Assumes nothing.
+-- A state's splits and its row, in the form of what the code has in hand.
 use mathlib.Core.Path.{_≡_, refl, sym, ap, _∙_}
-use mathlib.Core.Bool.{Bool, true, false, not, _&&_}
+use mathlib.Core.Bool.{Bool, true, false, not}
 use mathlib.Core.List.{List, [], _∷_, _++_, map}
-use Prim.Native.Nat.{ℕ, zero, suc, _+_, _<_, _≤_}
+use Prim.Native.Nat.{ℕ, _<_}
 use native.Mathlib.Omega.{arith}
 use lib.IntN.{ℤ, pos}
 use lib.ListN.{length, getD, List·getD-map}
 use borrow.Author.Tests.{not-true, not-false}
 use Rattle.turtle.specs.declared.AB.{AB}
-use Rattle.turtle.specs.declared.walk.Cell.{Cell}
-use Rattle.turtle.specs.Plane.{origin, signed, flipped, facing}
-use Rattle.turtle.specs.Walk.{turtle, cells}
-use Rattle.classifier.specs.declared.Corner.{Corner}
-use Rattle.classifier.specs.declared.Placed.{Placed}
+use Rattle.turtle.specs.Plane.{origin, facing}
+use Rattle.turtle.specs.Walk.{turtle}
 use Rattle.classifier.specs.declared.Classifier.{Classifier}
-use Rattle.classifier.specs.Parts.{pointOf, noCorner, noSeparator, polygonsOf, classifierOf}
-use Rattle.classifier.specs.Splits.{whole}
+use Rattle.classifier.specs.declared.Corner.{Corner}
+use Rattle.classifier.specs.Shapes.{pointOf, noCorner, noSeparator, classifierOf}
+use Rattle.classifier.specs.Splits.{Polygon}
 use Rattle.grammar.specs.Texts.{Line, linesOf}
 use Rattle.grammar.specs.Curves.{strokes, letterOf}
 use Rattle.grammar.proofs.GrammarLaws.{length-cells}
 use Rattle.tables.specs.declared.Child.{Child}
 use Rattle.tables.specs.declared.Drawn.{Drawn}
-use Rattle.tables.specs.declared.Numbers.{Numbers}
 use Rattle.tables.specs.declared.Source.{Source}
-use Rattle.tables.specs.Children.{child, offset, leaves, leaf, noCell}
-use Rattle.tables.specs.Classifier.{polygons, tree}
-use Rattle.tables.specs.Frames.{starts, ChildrenOf}
-use Rattle.tables.specs.Leaves.{IsDrawn}
-use Rattle.tables.specs.Rows.{rowBy, Whole, statesIn, pairsOf, triplesOf, choicesOf}
-use Rattle.tables.specs.Table.{stateOf, pair, flavorNumber, upTo, row}
+use Rattle.tables.specs.declared.StateParts.{StateParts}
+use Rattle.tables.specs.Children.{noChild, children, leaves, leaf, noCell}
+use Rattle.tables.specs.Classifier.{polygons, classes}
+use Rattle.tables.specs.Table.{pair, flavorNumber, three, upTo, stateRow}
 use Rattle.tables.specs.Verdicts.{splits}
+use Rattle.tables.specs.Inside.Frames.{starts}
+use Rattle.tables.specs.Inside.Sources.{Ready}
+use Rattle.tables.specs.Inside.Leaves.{IsDrawn}
+use Rattle.tables.specs.Inside.StateNumbers.{stateIn, numberOf, numbersOf, Tokened}
+use Rattle.tables.proofs.FrameLaws.{child-below}
 use Rattle.tables.proofs.LeafLaws.{four-strokes}
 
 -- ---- whether a token's children split
-pub whole-is : (ls : List Line) (m : ℕ) (f : Bool) (k : Classifier) → k ≡ classifierOf (polygons ls m f) → k .whole ≡ whole (tree ls m f)
-unfolding classifierOf tree
-whole-is ls m f k e = ap (λ k. k .whole) e
+pub classes-are : (ls : List Line) (m : ℕ) (f : Bool) {gs : List Polygon} → gs ≡ polygons ls m f → {k : Classifier} → k ≡ classifierOf gs → k ≡ classes ls m f
+unfolding classes
+classes-are ls m f e g = g ∙ ap classifierOf e
 
-module _ (ls : List Line) (m : ℕ) {a : Bool} (e : a ≡ whole (tree ls m false)) where
+pub whole-is : {k c : Classifier} → k ≡ c → k .whole ≡ c .whole
+whole-is e = ap (λ k. k .whole) e
+
+module _ (ls : List Line) (m : ℕ) {a : Bool} (e : a ≡ classes ls m false .whole) where
   pub splits-no : not a ≡ true → false ≡ splits ls m
   splits-no h = let n : a ≡ false = not-true a h in rw (sym e ∙ n) refl
 
-  pub splits-yes : not a ≡ false → {b : Bool} → b ≡ whole (tree ls m true) → b ≡ splits ls m
+  pub splits-yes : not a ≡ false → {b : Bool} → b ≡ classes ls m true .whole → b ≡ splits ls m
   splits-yes h f = let y : a ≡ true = not-false a h in f ∙ rw (sym e ∙ y) refl
 
 -- ---- a list of four
@@ -54,56 +56,53 @@ four-of (a ∷ b ∷ []) z h = absurd (omega arith)
 four-of (a ∷ b ∷ c ∷ []) z h = absurd (omega arith)
 four-of (a ∷ b ∷ c ∷ d ∷ e ∷ l) z h = absurd (omega arith)
 
-pairs-by : {p q r s : Corner} {t u v w : AB} → pointOf p ≡ t → pointOf q ≡ u → pointOf r ≡ v → pointOf s ≡ w → pairsOf p q r s ≡ pair t ++ (pair u ++ (pair v ++ pair w))
-pairs-by e f g h = λ i. pair (e i) ++ (pair (f i) ++ (pair (g i) ++ pair (h i)))
+-- ---- the 41 numbers, by what they are of
+rowOf : Bool → List Child → (ℕ → AB) → (ℕ → AB) → List ℤ → Classifier → List ℤ
+rowOf f cs start sum flavors c =
+    upTo (λ d. stateIn f (getD cs d noChild) ∷ []) 4
+    ++ (upTo (λ d. pair (start d)) 4
+    ++ (upTo (λ d. pair (sum d)) 4
+    ++ (upTo (λ d. getD flavors d (pos 0) ∷ []) 4
+    ++ (upTo (λ i. three (getD (c .separators) i noSeparator)) 3
+    ++ upTo (λ p. pos (getD (c .choices) p 0) ∷ []) 8))))
 
--- ---- the 41 numbers
-module _ {text : List ℕ} {s : Source} {m : ℕ} {cs : List Child} (of : ChildrenOf text s m cs) (f : Bool) where
+parts-row : (p : StateParts) → numbersOf p ≡ rowOf (p .flip) (p .children) (λ d. pointOf (getD (p .starts) d noCorner)) (λ d. pointOf (getD (p .sums) d noCorner)) (p .flavors) (p .classes)
+unfolding numbersOf numberOf rowOf
+parts-row p = refl
+
+module _ {text : List ℕ} {s : Source} (ready : Ready text s) {m : ℕ} (below : m < s .count) {cs : List Child} (are : cs ≡ children (linesOf text) m) (f : Bool) where
   abbrev ls : List Line
   ls = linesOf text
 
-  states-are : statesIn f cs ≡ upTo (λ d. pos (stateOf (child ls m d .token) (flipped f (child ls m d .flip))) ∷ []) 4
-  states-are = rw (of .are) refl
+  abbrev flavors : List ℤ
+  flavors = upTo (λ d. flavorNumber (leaf ls m f d .flavor) ∷ []) 4
 
-  starts-are : (at : List Corner) → map pointOf at ≡ starts ls m f → pairsOf (getD at 0 noCorner) (getD at 1 noCorner) (getD at 2 noCorner) (getD at 3 noCorner) ≡ upTo (λ d. pair (signed f (offset ls m d))) 4
-  unfolding starts
-  starts-are at e =
-      let start : (i : ℕ) → pointOf (getD at i noCorner) ≡ getD (starts ls m f) i (pointOf noCorner) = λ i. sym (List·getD-map pointOf at i noCorner) ∙ ap (λ l. getD l i (pointOf noCorner)) e in
-      pairs-by (start 0) (start 1) (start 2) (start 3)
+  state-row : stateRow ls m f ≡ rowOf f (children ls m) (λ d. getD (starts ls m f) d (pointOf noCorner)) (λ d. leaf ls m f d .sum) flavors (classes ls m f)
+  unfolding stateRow rowOf starts
+  state-row = refl
+
+  start-at : (at : List Corner) → map pointOf at ≡ starts ls m f → (d : ℕ) → pointOf (getD at d noCorner) ≡ getD (starts ls m f) d (pointOf noCorner)
+  start-at at e d = sym (List·getD-map pointOf at d noCorner) ∙ ap (λ l. getD l d (pointOf noCorner)) e
 
   module _ {d : Drawn} (drawn : IsDrawn (strokes ls 1 (letterOf ls m)) (turtle origin (facing f)) d) where
     sum-at : (i : ℕ) → pointOf (getD (d .sums) i noCorner) ≡ leaf ls m f i .sum
     unfolding leaves origin
     sum-at i = sym (List·getD-map pointOf (d .sums) i noCorner) ∙ ap (λ l. getD l i (pointOf noCorner)) (drawn .sums) ∙ List·getD-map (λ c. c .sum) (leaves ls m f) i noCell
 
-    sums-are : pairsOf (getD (d .sums) 0 noCorner) (getD (d .sums) 1 noCorner) (getD (d .sums) 2 noCorner) (getD (d .sums) 3 noCorner) ≡ upTo (λ i. pair (leaf ls m f i .sum)) 4
-    sums-are = pairs-by (sum-at 0) (sum-at 1) (sum-at 2) (sum-at 3)
-
     leaves-four : length (leaves ls m f) ≡ 4
     unfolding leaves
-    leaves-four = length-cells (strokes ls 1 (letterOf ls m)) (turtle origin (facing f)) ∙ four-strokes (of .ready) m (of .below)
+    leaves-four = length-cells (strokes ls 1 (letterOf ls m)) (turtle origin (facing f)) ∙ four-strokes ready m below
 
-    flavors-are : d .flavors ≡ upTo (λ i. flavorNumber (leaf ls m f i .flavor) ∷ []) 4
+    flavors-are : d .flavors ≡ flavors
     unfolding leaves
     flavors-are = drawn .flavors ∙ ap (map (λ c. flavorNumber (c .flavor))) (four-of (leaves ls m f) noCell leaves-four)
 
-    module _ {k : Classifier} (e : k ≡ classifierOf (polygons ls m f)) (at : List Corner) (starts-is : map pointOf at ≡ starts ls m f) {n : Numbers}
-        (a : n .states ≡ statesIn f cs)
-        (b : n .starts ≡ pairsOf (getD at 0 noCorner) (getD at 1 noCorner) (getD at 2 noCorner) (getD at 3 noCorner))
-        (c : n .sums ≡ pairsOf (getD (d .sums) 0 noCorner) (getD (d .sums) 1 noCorner) (getD (d .sums) 2 noCorner) (getD (d .sums) 3 noCorner))
-        (g : n .flavors ≡ d .flavors)
-        (h : n .separators ≡ triplesOf (getD (k .separators) 0 noSeparator) (getD (k .separators) 1 noSeparator) (getD (k .separators) 2 noSeparator))
-        (i : n .choices ≡ choicesOf (k .choices)) where
-      pub numbers-whole : Whole n
-      numbers-whole = record {
-        states = ap length a;
-        starts = ap length b;
-        sums = ap length c;
-        flavors = ap length (g ∙ flavors-are);
-        separators = ap length h;
-        choices = ap length i;
-      }
+    pub parts-are : {k : Classifier} → k ≡ classes ls m f → (at : List Corner) → map pointOf at ≡ starts ls m f
+        → numbersOf (record { children = cs; flip = f; starts = at; sums = d .sums; flavors = d .flavors; classes = k }) ≡ stateRow ls m f
+    parts-are e at starts-are =
+        parts-row _ ∙ (λ i. rowOf f (are i) (λ d. start-at at starts-are d i) (λ d. sum-at d i) (flavors-are i) (e i)) ∙ sym state-row
 
-      pub numbers-row : rowBy n ≡ row ls m f
-      unfolding rowBy row classifierOf tree
-      numbers-row = rw (a ∙ states-are, b ∙ starts-are at starts-is, c ∙ sums-are, g ∙ flavors-are, h, i, e) refl
+  pub parts-tokened : {p : StateParts} → p .children ≡ cs → Tokened p
+  parts-tokened e = record { below = λ d h. rw e (omega (arith, child-below (record { ready = ready; below = below; are = are }) d h, ready .held .few)) }
+
+pub ruleset stated = (classes-are, whole-is, splits-no, splits-yes, parts-are, parts-tokened)

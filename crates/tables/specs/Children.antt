@@ -5,25 +5,25 @@ use Prim.Native.Nat.{ℕ, zero, suc, _+_, _%_}
 use lib.Dec.{eqb}
 use lib.ListN.{getD}
 use Rattle.turtle.specs.declared.AB.{AB}
-use Rattle.turtle.specs.declared.walk.Cell.{Cell}
+use Rattle.turtle.specs.declared.walk.DrawnCell.{DrawnCell}
 use Rattle.turtle.specs.declared.letter.Flavor.{Flavor}
 use Rattle.turtle.specs.Plane.{origin, _⊕_, signed, facing}
 use Rattle.turtle.specs.Walk.{Sym, left, right, letter, turtle, cells}
 use Rattle.grammar.specs.Words.{wordOf}
 use Rattle.grammar.specs.Texts.{Line}
 use Rattle.tables.specs.declared.Child.{Child}
-use Rattle.grammar.specs.Curves.{rules, strokes, net, letterOf, childrenOf}
+use Rattle.grammar.specs.Curves.{rules, strokes, net, letterOf, ruleSymbols}
 
 -- the children along a rule: each at heading 0, or flipped: at heading 3
-unfoldable pub met : ℕ → List (Sym ℕ) → List Child
-met h [] = []
-met h (left ∷ w) = met ((h + 1) % 6) w
-met h (right ∷ w) = met ((h + 5) % 6) w
-met h (letter m ∷ w) = record { token = m; flip = eqb h 3 } ∷ met h w
+unfoldable pub childrenAlong : ℕ → List (Sym ℕ) → List Child
+childrenAlong h [] = []
+childrenAlong h (left ∷ w) = childrenAlong ((h + 1) % 6) w
+childrenAlong h (right ∷ w) = childrenAlong ((h + 5) % 6) w
+childrenAlong h (letter m ∷ w) = record { token = m; flip = eqb h 3 } ∷ childrenAlong h w
 
 -- those of a token, in the order of its rule, which is reversed for a lowercase one
 unfoldable pub children : List Line → ℕ → List Child
-children ls m = met 0 (childrenOf ls (wordOf (rules ls) (letterOf ls m)))
+children ls m = childrenAlong 0 (ruleSymbols ls (wordOf (rules ls) (letterOf ls m)))
 
 abbrev pub noChild : Child
 noChild = record { token = 0; flip = false }
@@ -41,11 +41,11 @@ unfoldable pub offset : List Line → ℕ → ℕ → AB
 offset ls m d = offsetAfter ls 1 (children ls m) d
 
 -- the four cells of a token's drawing with one pass, walked from the origin at heading 0 or 3
-unfoldable pub leaves : List Line → ℕ → Bool → List Cell
+unfoldable pub leaves : List Line → ℕ → Bool → List DrawnCell
 leaves ls m f = cells (strokes ls 1 (letterOf ls m)) (turtle origin (facing f))
 
-abbrev pub noCell : Cell
+abbrev pub noCell : DrawnCell
 noCell = record { sum = origin; flavor = Flavor.None }
 
-abbrev pub leaf : List Line → ℕ → Bool → ℕ → Cell
+abbrev pub leaf : List Line → ℕ → Bool → ℕ → DrawnCell
 leaf ls m f d = getD (leaves ls m f) d noCell

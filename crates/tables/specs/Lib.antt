@@ -1,12 +1,8 @@
 pub mod Children
-pub mod Hulls
 pub mod Classifier
-pub mod Table
 pub mod Descent
+pub mod Table
+pub mod Patterns
 pub mod Verdicts
-pub mod Sources
-pub mod Meetings
-pub mod Leaves
-pub mod Frames
-pub mod Rows
 pub mod Compiler
+pub mod Inside

@@ -8,15 +8,14 @@ use lib.IntN.{ℤ, pos, negsuc}
 use lib.ListN.{length, getD}
 use Rattle.turtle.specs.declared.AB.{AB}
 use Rattle.turtle.specs.declared.letter.Flavor.{Flavor}
-use Rattle.turtle.specs.declared.walk.Cell.{Cell}
+use Rattle.turtle.specs.declared.walk.DrawnCell.{DrawnCell}
 use Rattle.turtle.specs.Plane.{signed, flipped}
 use Rattle.classifier.specs.declared.Separator.{Separator}
-use Rattle.classifier.specs.Splits.{separators, choice}
-use Rattle.classifier.specs.Parts.{noSeparator}
+use Rattle.classifier.specs.Shapes.{noSeparator}
 use Rattle.grammar.specs.Texts.{Line}
 use Rattle.grammar.specs.Curves.{tokenBytes}
 use Rattle.tables.specs.Children.{child, offset, leaf}
-use Rattle.tables.specs.Classifier.{tree}
+use Rattle.tables.specs.Classifier.{classes}
 use Rattle.tables.specs.Descent.{Leaf}
 
 abbrev pub bit : Bool → ℕ
@@ -35,7 +34,7 @@ flavorNumber (Flavor.Of f) = pos f
 flavorNumber Flavor.None = negsuc 0
 
 -- a drawn cell, as a table has it
-abbrev pub leafOf : Cell → Leaf
+abbrev pub leafOf : DrawnCell → Leaf
 leafOf c = record { sum = c .sum; flavor = flavorNumber (c .flavor) }
 
 abbrev pub three : Separator → List ℤ
@@ -46,16 +45,16 @@ abbrev pub upTo : {A : Type 0} → (ℕ → List A) → ℕ → List A
 upTo f zero = []
 upTo f (suc n) = upTo f n ++ f n
 
-unfoldable pub row : List Line → ℕ → Bool → List ℤ
-row ls m f =
-    let t = tree ls m f in
+unfoldable pub stateRow : List Line → ℕ → Bool → List ℤ
+stateRow ls m f =
+    let c = classes ls m f in
     upTo (λ d. pos (stateOf (child ls m d .token) (flipped f (child ls m d .flip))) ∷ []) 4
     ++ (upTo (λ d. pair (signed f (offset ls m d))) 4
     ++ (upTo (λ d. pair (leaf ls m f d .sum)) 4
     ++ (upTo (λ d. flavorNumber (leaf ls m f d .flavor) ∷ []) 4
-    ++ (upTo (λ i. three (getD (separators t) i noSeparator)) 3
-    ++ upTo (λ p. pos (choice (separators t) p t) ∷ []) 8))))
+    ++ (upTo (λ i. three (getD (c .separators) i noSeparator)) 3
+    ++ upTo (λ p. pos (getD (c .choices) p 0) ∷ []) 8))))
 
 -- the whole table: the states of each token
 unfoldable pub tableOf : List Line → List ℤ
-tableOf ls = upTo (λ m. row ls m false ++ row ls m true) (length (tokenBytes ls))
+tableOf ls = upTo (λ m. stateRow ls m false ++ stateRow ls m true) (length (tokenBytes ls))

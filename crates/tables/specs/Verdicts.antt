@@ -2,15 +2,14 @@
 use mathlib.Core.Bool.{Bool, true, false, not, _&&_}
 use mathlib.Core.List.{List}
 use Prim.Native.Nat.{ℕ, _+_}
-use Rattle.classifier.specs.Splits.{whole}
 use Rattle.grammar.specs.Texts.{Line, linesOf}
 use Rattle.grammar.specs.Curves.{tokenOf}
 use Rattle.grammar.specs.Tests.{Verdict, fine, first, faultAt, textTests}
-use Rattle.tables.specs.Classifier.{tree}
+use Rattle.tables.specs.Classifier.{classes}
 
 -- a token's children split cleanly, in either frame
 abbrev pub splits : List Line → ℕ → Bool
-splits ls m = whole (tree ls m false) && whole (tree ls m true)
+splits ls m = classes ls m false .whole && classes ls m true .whole
 
 -- 20: those of the line's motif, or of its lowercase form, do not
 unfoldable pub badSplit : List Line → Line → Bool

@@ -3,11 +3,11 @@ ghost use mathlib.Core.Path.{_≡_};
 ghost use mathlib.Core.List.{[], _∷_};
 ghost use Prim.Native.Nat.{_≤_, _<_, _+_, _%_};
 ghost use Rattle.turtle.specs.Walk.{letter};
-ghost use Rattle.grammar.specs.Curves.{letters};
+ghost use Rattle.grammar.specs.Curves.{letterCount};
 ghost use Rattle.grammar.specs.Texts.{linesOf};
-ghost use Rattle.tables.specs.Children.{met, children};
-ghost use Rattle.tables.specs.Meetings.{childBy, childrenBy, Open, Onward};
-ghost use Rattle.tables.specs.Sources.{Holds, Ready};
+ghost use Rattle.tables.specs.Children.{childrenAlong, children};
+ghost use Rattle.tables.specs.Inside.RuleChildren.{ruleSymbolBy, ruleSymbolsBy, OpenChildren, ChildrenOnward};
+ghost use Rattle.tables.specs.Inside.Sources.{Holds, Ready};
 use crate::Child;
 use crate::Source;
 use crate::tokens::rule_into;
@@ -15,16 +15,16 @@ use crate::tokens::token_of;
 use grammar::lines::is_listed;
 
 // The first `count` children of a rule, and the heading behind them.
-struct Met {
+struct RuleChildren {
     children: [Child; 4],
     count: usize,
     heading: u8,
 }
 
-fn no_children() -> Met
-    ensures { λ m. ⌜ Open m × ((m .count ≡ 0) × (m .heading ≡ 0)) ⌝ }
+fn no_children() -> RuleChildren
+    ensures { λ m. ⌜ OpenChildren m × ((m .count ≡ 0) × (m .heading ≡ 0)) ⌝ }
 {
-    Met {
+    RuleChildren {
         children: [Child {
             token: 0,
             flip: false,
@@ -34,9 +34,9 @@ fn no_children() -> Met
     }
 }
 
-fn with_child(m: Met, token: usize) -> Met
-    requires { ⌜ Open m × (m .count < 4) ⌝ }
-    ensures { λ n. ⌜ Onward m (letter token ∷ []) n ⌝ }
+fn with_child(m: RuleChildren, token: usize) -> RuleChildren
+    requires { ⌜ OpenChildren m × (m .count < 4) ⌝ }
+    ensures { λ n. ⌜ ChildrenOnward m (letter token ∷ []) n ⌝ }
 {
     let at = m.count;
     let heading = m.heading;
@@ -45,19 +45,19 @@ fn with_child(m: Met, token: usize) -> Met
         token,
         flip: heading == 3,
     };
-    Met {
+    RuleChildren {
         children,
         count: at + 1,
         heading,
     }
 }
 
-fn with_turn(m: Met, turn: u8) -> Met
-    requires { ⌜ Open m × (turn ≤ 5) ⌝ }
+fn with_turn(m: RuleChildren, turn: u8) -> RuleChildren
+    requires { ⌜ OpenChildren m × (turn ≤ 5) ⌝ }
     ensures { λ n. ⌜ (n .children ≡ m .children) × ((n .count ≡ m .count) × (n .heading ≡ (m .heading + turn) % 6)) ⌝ }
 {
     let children = m.children;
-    Met {
+    RuleChildren {
         children,
         count: m.count,
         heading: (m.heading + turn) % 6,
@@ -65,9 +65,9 @@ fn with_turn(m: Met, turn: u8) -> Met
 }
 
 // One byte more of a rule.
-fn met_byte(source: Source, m: Met, b: u8) -> Met
-    requires { ⌜ Holds 52 source × (Open m × (m .count + letters (childBy source b) ≤ 4)) ⌝ }
-    ensures { λ n. ⌜ Onward m (childBy source b) n ⌝ }
+fn with_rule_byte(source: Source, m: RuleChildren, b: u8) -> RuleChildren
+    requires { ⌜ Holds 52 source × (OpenChildren m × (m .count + letterCount (ruleSymbolBy source b) ≤ 4)) ⌝ }
+    ensures { λ n. ⌜ ChildrenOnward m (ruleSymbolBy source b) n ⌝ }
 {
     if b == b'+' {
         return with_turn(m, 1);
@@ -82,14 +82,14 @@ fn met_byte(source: Source, m: Met, b: u8) -> Met
     m
 }
 
-fn met_word(source: Source, w: &[u8]) -> Met
-    requires { ⌜ Holds 52 source × (letters (childrenBy source (now w)) ≡ 4) ⌝ }
-    ensures { λ m. ⌜ m .children ≡ met 0 (childrenBy source (now (w .entry))) ⌝ }
+fn along_rule(source: Source, w: &[u8]) -> RuleChildren
+    requires { ⌜ Holds 52 source × (letterCount (ruleSymbolsBy source (now w)) ≡ 4) ⌝ }
+    ensures { λ m. ⌜ m .children ≡ childrenAlong 0 (ruleSymbolsBy source (now (w .entry))) ⌝ }
 {
     let mut m = no_children();
     let mut i = 0;
     while i < w.len() {
-        m = met_byte(source, m, w[i]);
+        m = with_rule_byte(source, m, w[i]);
         i += 1;
     }
     m
@@ -103,6 +103,6 @@ pub(crate) fn children_of(text: &[u8], source: Source, token: usize) -> [Child; 
     let lines = source.lines;
     let mut rule = [0u8; 24];
     let n = rule_into(text, lines, bytes[token], &mut rule);
-    let m = met_word(source, &rule[0..n]);
+    let m = along_rule(source, &rule[0..n]);
     m.children
 }

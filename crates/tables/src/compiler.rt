@@ -6,21 +6,20 @@ ghost use lib.Dec.{eqb};
 ghost use lib.ListN.{length, drop};
 ghost use Rattle.grammar.specs.Texts.{linesOf};
 ghost use Rattle.grammar.specs.Tests.{first};
-ghost use Rattle.grammar.specs.TextParts.{lineAt};
+ghost use Rattle.grammar.specs.Inside.Places.{lineAt};
 ghost use Rattle.tables.specs.Compiler.{saidCompiled, compiledTo, afterCompile, tableFor};
-ghost use Rattle.tables.specs.Sources.{Ready};
-ghost use Rattle.tables.specs.Table.{row};
+ghost use Rattle.tables.specs.Inside.Sources.{Ready};
+ghost use Rattle.tables.specs.Table.{stateRow};
 ghost use Rattle.tables.specs.Verdicts.{badSplit};
 use crate::Source;
 use crate::rows::write_numbers;
-use crate::states::numbers_of;
+use crate::states::parts_of;
 use crate::states::splits;
 use crate::tokens::source_of;
 use crate::tokens::token_of;
 use grammar::lines::Lines;
-use grammar::lines::scan_text;
-use grammar::text::TextAnswer;
-use grammar::text::test_text;
+use grammar::tests::TextAnswer;
+use grammar::tests::read_text;
 use triple::refusal::Refusal;
 
 // The number of states; or a refusal from 12 to 20 with the number of the line at fault; or that the
@@ -74,10 +73,10 @@ fn first_unsplit(text: &[u8], source: Source) -> usize
 // A state's numbers at the front of its part of the table.
 fn write_state(text: &[u8], source: Source, state: usize, part: &mut [i32])
     requires { ⌜ Ready (now text) source × ((state < 2 * source .count) × (41 ≤ length (now part))) ⌝ }
-    ensures { λ _. ⌜ now (part .exit) ≡ row (linesOf (now (text .entry))) (state / 2) (eqb (state % 2) 1) ++ drop 41 (now (part .entry)) ⌝ }
+    ensures { λ _. ⌜ now (part .exit) ≡ stateRow (linesOf (now (text .entry))) (state / 2) (eqb (state % 2) 1) ++ drop 41 (now (part .entry)) ⌝ }
 {
-    let numbers = numbers_of(text, source, state / 2, state % 2 == 1);
-    write_numbers(numbers, part);
+    let parts = parts_of(text, source, state / 2, state % 2 == 1);
+    write_numbers(parts, part);
 }
 
 // Each state's numbers into its own part of the table.
@@ -113,10 +112,11 @@ fn compile_source(text: &[u8], source: Source, table: &mut [i32]) -> CompileAnsw
 pub fn compile_grammar(text: &[u8], table: &mut [i32]) -> CompileAnswer
     ensures { λ a. ⌜ (saidCompiled a ≡ compiledTo (now (text .entry)) (now (table .entry))) × (now (table .exit) ≡ afterCompile (now (text .entry)) (now (table .entry))) ⌝ }
 {
-    if let TextAnswer::Fault(e, line) = test_text(text) {
+    let read = read_text(text);
+    let answer = read.answer;
+    if let TextAnswer::Fault(e, line) = answer {
         return CompileAnswer::Fault(e, line);
     }
-    let found = scan_text(text);
-    let lines = found.lines;
+    let lines = read.lines;
     compile_source(text, source_of(lines), table)
 }

@@ -3,13 +3,13 @@ ghost use mathlib.Core.Path.{_≡_};
 ghost use mathlib.Core.List.{map};
 ghost use Prim.Native.Nat.{_<_};
 ghost use Rattle.turtle.specs.Plane.{_⊕_, signed, flipped};
-ghost use Rattle.turtle.specs.Sizes.{Small};
-ghost use Rattle.classifier.specs.Parts.{pointOf, cornersOf, polygonsOf};
+ghost use Rattle.turtle.specs.Inside.Sizes.{Small};
+ghost use Rattle.classifier.specs.Shapes.{pointOf, placedCorners, polygonsOf};
 ghost use Rattle.grammar.specs.Texts.{linesOf};
 ghost use Rattle.grammar.specs.Curves.{net, letterOf};
-ghost use Rattle.tables.specs.Classifier.{placed, polygons};
-ghost use Rattle.tables.specs.Frames.{starts, ChildrenOf};
-ghost use Rattle.tables.specs.Sources.{Ready};
+ghost use Rattle.tables.specs.Classifier.{placedHull, polygons};
+ghost use Rattle.tables.specs.Inside.Frames.{starts, ChildrenOf};
+ghost use Rattle.tables.specs.Inside.Sources.{Ready};
 use crate::Child;
 use crate::Source;
 use crate::leaves::corner_of;
@@ -86,7 +86,7 @@ pub(crate) fn starts_of(
 // A child's footprint, from where it starts.
 fn placed_of(text: &[u8], source: Source, child: Child, at: Corner, flip: bool) -> Placed
     requires { ⌜ Ready (now text) source × (child .token < source .count) ⌝ }
-    ensures { λ g. ⌜ cornersOf g ≡ placed (linesOf (now (text .entry))) child (pointOf at) flip ⌝ }
+    ensures { λ g. ⌜ placedCorners g ≡ placedHull (linesOf (now (text .entry))) child (pointOf at) flip ⌝ }
 {
     let drawn = leaves_of(text, source, child.token, false);
     let corners = drawn.corners;

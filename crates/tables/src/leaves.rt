@@ -2,15 +2,15 @@
 ghost use mathlib.Core.Path.{_≡_};
 ghost use Prim.Native.Nat.{_≤_, _<_, _+_};
 ghost use Rattle.turtle.specs.Plane.{origin, facing};
-ghost use Rattle.turtle.specs.Sizes.{Small};
+ghost use Rattle.turtle.specs.Inside.Sizes.{Small};
 ghost use Rattle.turtle.specs.declared.walk.Corners.{Corners};
 ghost use Rattle.turtle.specs.declared.walk.Hosted.{Hosted};
 ghost use Rattle.turtle.specs.Walk.{symbolOf, symbolsOf, turtle};
-ghost use Rattle.classifier.specs.Parts.{pointOf};
+ghost use Rattle.classifier.specs.Shapes.{pointOf};
 ghost use Rattle.grammar.specs.Texts.{linesOf};
-ghost use Rattle.grammar.specs.Curves.{letters, letterOf, strokes};
-ghost use Rattle.tables.specs.Leaves.{Fit, Added, Hosts, Onward, IsDrawn};
-ghost use Rattle.tables.specs.Sources.{Ready};
+ghost use Rattle.grammar.specs.Curves.{letterCount, letterOf, strokes};
+ghost use Rattle.tables.specs.Inside.Leaves.{CellsFit, CellAdded, Hosts, CellsOnward, IsDrawn};
+ghost use Rattle.tables.specs.Inside.Sources.{Ready};
 ghost use Rattle.tables.specs.Table.{flavorNumber};
 use crate::Drawn;
 use crate::Source;
@@ -18,14 +18,14 @@ use crate::tokens::strokes_into;
 use classifier::Corner;
 use turtle::AB;
 use turtle::letter::Flavor;
-use turtle::walk::Cell;
 use turtle::walk::Corners;
+use turtle::walk::DrawnCell;
 use turtle::walk::Hosted;
 use turtle::walk::Stepped;
 use turtle::walk::Turtle;
 
 // The turtle, and the first `count` cells that it drew.
-struct Walk {
+struct CellWalk {
     turtle: Turtle,
     corners: [Corner; 12],
     sums: [Corner; 4],
@@ -61,11 +61,11 @@ fn heading_of(flip: bool) -> u8
     0
 }
 
-fn started(flip: bool) -> Walk
-    ensures { λ k. ⌜ Fit k × ((k .count ≡ 0) × (k .turtle ≡ turtle origin (facing flip))) ⌝ }
+fn started(flip: bool) -> CellWalk
+    ensures { λ k. ⌜ CellsFit k × ((k .count ≡ 0) × (k .turtle ≡ turtle origin (facing flip))) ⌝ }
 {
     let heading = heading_of(flip);
-    Walk {
+    CellWalk {
         turtle: Turtle {
             at: AB::new(0, 0),
             heading,
@@ -77,9 +77,9 @@ fn started(flip: bool) -> Walk
     }
 }
 
-fn with_cell(k: Walk, c: Corners, cell: Cell, next: Turtle) -> Walk
-    requires { ⌜ Fit k × ((k .count < 4) × ((Small 40 (c .p) × (Small 40 (c .q) × Small 40 (c .r))) × Small 120 (cell .sum))) ⌝ }
-    ensures { λ n. ⌜ Added k c cell next n ⌝ }
+fn with_cell(k: CellWalk, c: Corners, cell: DrawnCell, next: Turtle) -> CellWalk
+    requires { ⌜ CellsFit k × ((k .count < 4) × ((Small 40 (c .p) × (Small 40 (c .q) × Small 40 (c .r))) × Small 120 (cell .sum))) ⌝ }
+    ensures { λ n. ⌜ CellAdded k c cell next n ⌝ }
 {
     let at = k.count;
     let mut corners = k.corners;
@@ -91,7 +91,7 @@ fn with_cell(k: Walk, c: Corners, cell: Cell, next: Turtle) -> Walk
     let mut flavors = k.flavors;
     let flavor = cell.flavor;
     flavors[at] = flavor_number(flavor);
-    Walk {
+    CellWalk {
         turtle: next,
         corners,
         sums,
@@ -101,9 +101,9 @@ fn with_cell(k: Walk, c: Corners, cell: Cell, next: Turtle) -> Walk
 }
 
 // The cell that a letter draws: its corners are those that the letter hosts.
-fn with_hosted(k: Walk, hosted: Hosted, cell: Cell, next: Turtle) -> Walk
-    requires { ⌜ Fit k × ((k .count < 4) × Hosts (k .turtle) hosted cell next) ⌝ }
-    ensures { λ n. ⌜ ((c : Corners) → hosted ≡ Hosted.Corners c → Added k c cell next n) ⌝ }
+fn with_hosted(k: CellWalk, hosted: Hosted, cell: DrawnCell, next: Turtle) -> CellWalk
+    requires { ⌜ CellsFit k × ((k .count < 4) × Hosts (k .turtle) hosted cell next) ⌝ }
+    ensures { λ n. ⌜ ((c : Corners) → hosted ≡ Hosted.Corners c → CellAdded k c cell next n) ⌝ }
 {
     match hosted {
         Hosted::Corners(c) => with_cell(k, c, cell, next),
@@ -112,13 +112,13 @@ fn with_hosted(k: Walk, hosted: Hosted, cell: Cell, next: Turtle) -> Walk
     }
 }
 
-fn with_turtle(k: Walk, turtle: Turtle) -> Walk
+fn with_turtle(k: CellWalk, turtle: Turtle) -> CellWalk
     ensures { λ n. ⌜ n ≡ record { turtle = turtle; corners = k .corners; sums = k .sums; flavors = k .flavors; count = k .count } ⌝ }
 {
     let corners = k.corners;
     let sums = k.sums;
     let flavors = k.flavors;
-    Walk {
+    CellWalk {
         turtle,
         corners,
         sums,
@@ -128,9 +128,9 @@ fn with_turtle(k: Walk, turtle: Turtle) -> Walk
 }
 
 // One byte more of the strokes.
-fn walk_byte(k: Walk, b: u8) -> Walk
-    requires { ⌜ Fit k × (k .count + letters (symbolOf b) ≤ 4) ⌝ }
-    ensures { λ n. ⌜ Onward k (symbolOf b) n ⌝ }
+fn walk_byte(k: CellWalk, b: u8) -> CellWalk
+    requires { ⌜ CellsFit k × (k .count + letterCount (symbolOf b) ≤ 4) ⌝ }
+    ensures { λ n. ⌜ CellsOnward k (symbolOf b) n ⌝ }
 {
     let t = k.turtle;
     match t.step(b) {
@@ -142,7 +142,7 @@ fn walk_byte(k: Walk, b: u8) -> Walk
 }
 
 fn walk_strokes(w: &[u8], flip: bool) -> Drawn
-    requires { ⌜ letters (symbolsOf (now w)) ≡ 4 ⌝ }
+    requires { ⌜ letterCount (symbolsOf (now w)) ≡ 4 ⌝ }
     ensures { λ d. ⌜ IsDrawn (symbolsOf (now (w .entry))) (turtle origin (facing flip)) d ⌝ }
 {
     let mut k = started(flip);
@@ -155,8 +155,8 @@ fn walk_strokes(w: &[u8], flip: bool) -> Drawn
 }
 
 // All that a walk drew.
-fn drawn_of(k: Walk) -> Drawn
-    requires { ⌜ Fit k × (k .count ≡ 4) ⌝ }
+fn drawn_of(k: CellWalk) -> Drawn
+    requires { ⌜ CellsFit k × (k .count ≡ 4) ⌝ }
     ensures { λ d. ⌜ (d .corners ≡ k .corners) × ((d .sums ≡ k .sums) × ((d .flavors ≡ k .flavors) × (pointOf (d .end) ≡ k .turtle .at))) ⌝ }
 {
     let corners = k.corners;

@@ -2,6 +2,7 @@
 // each state's 41 numbers), and what following a table gives, whoever wrote it. The grammar's text and
 // its drawing are `grammar`'s, telling children apart is `classifier`'s; the operations on A5's own
 // table are `lsystem`'s.
+use classifier::Classifier;
 use classifier::Corner;
 use grammar::lines::Lines;
 
@@ -35,12 +36,13 @@ pub(crate) struct Drawn {
     pub end: Corner,
 }
 
-// A state's 41 numbers, part by part.
-pub(crate) struct Numbers {
-    pub states: [i32; 4],
-    pub starts: [i32; 8],
-    pub sums: [i32; 8],
+// What a state's 41 numbers are read from: its children, where they start, its cells' corner sums and
+// flavors, and what tells its children apart.
+pub(crate) struct StateParts {
+    pub children: [Child; 4],
+    pub flip: bool,
+    pub starts: [Corner; 4],
+    pub sums: [Corner; 4],
     pub flavors: [i32; 4],
-    pub separators: [i32; 9],
-    pub choices: [i32; 8],
+    pub classes: Classifier,
 }

@@ -5,17 +5,14 @@ ghost use Prim.Native.Nat.{ℕ, _≤_, _<_, _+_};
 ghost use lib.ListN.{length, take};
 ghost use Rattle.turtle.specs.Walk.{symbolsOf};
 ghost use Rattle.grammar.specs.Words.{expandOnce};
-ghost use Rattle.grammar.specs.Books.{bookOf};
-ghost use Rattle.grammar.specs.Curves.{rules, strokes, tokenBytes, place};
-ghost use Rattle.grammar.specs.TextParts.{linesBy, Sized};
-ghost use Rattle.tables.specs.Sources.{listedFrom, lettersIn, Holds};
+ghost use Rattle.grammar.specs.Curves.{rules, strokes, tokenBytes, placeIn};
+ghost use Rattle.grammar.specs.Inside.Places.{linesBy, Sized};
+ghost use Rattle.tables.specs.Inside.Sources.{listedFrom, lettersIn, Holds};
 use crate::Source;
 use grammar::lines::Lines;
 use grammar::lines::draw_book;
 use grammar::lines::is_listed;
 use grammar::lines::rule_book;
-use grammar::word::Book;
-use grammar::word::WordAnswer;
 use grammar::word::expand_once;
 
 fn no_tokens(lines: Lines) -> Source
@@ -80,7 +77,7 @@ pub(crate) fn source_of(lines: Lines) -> Source
 // The token of a letter; the number of tokens where there is none.
 pub(crate) fn token_of(source: Source, b: u8) -> usize
     requires { ⌜ Holds 52 source ⌝ }
-    ensures { λ n. ⌜ n ≡ place (lettersIn source) b ⌝ }
+    ensures { λ n. ⌜ n ≡ placeIn (lettersIn source) b ⌝ }
 {
     let bytes = source.bytes;
     let count = source.count;
@@ -94,32 +91,21 @@ pub(crate) fn token_of(source: Source, b: u8) -> usize
     i
 }
 
-// One pass into a buffer that has room for it: how many bytes it has.
-fn passed(text: &[u8], book: Book, s: &[u8], out: &mut [u8]) -> usize
-    requires { ⌜ length (expandOnce (bookOf (now text) book) (now s)) ≤ length (now out) ⌝ }
-    ensures { λ n. ⌜ (take n (now (out .exit)) ≡ expandOnce (bookOf (now (text .entry)) book) (now (s .entry))) × (n ≤ length (now (out .entry))) ⌝ }
-{
-    match expand_once(text, book, s, out) {
-        WordAnswer::Written(n) => n,
-        WordAnswer::Refused(_) => 0,
-    }
-}
-
 // The rule of a letter.
 pub(crate) fn rule_into(text: &[u8], lines: Lines, letter: u8, out: &mut [u8]) -> usize
     requires { ⌜ Sized lines × (24 ≤ length (now out)) ⌝ }
-    ensures { λ n. ⌜ (take n (now (out .exit)) ≡ expandOnce (rules (linesBy (now (text .entry)) lines)) (letter ∷ [])) × (n ≤ length (now (out .entry))) ⌝ }
+    ensures { λ n. ⌜ (take n (now (out .exit)) ≡ expandOnce (rules (linesBy (now (text .entry)) lines)) (letter ∷ [])) × (n ≤ 24) ⌝ }
 {
     let word = [letter; 1];
-    passed(text, rule_book(lines), &word, out)
+    expand_once(text, rule_book(lines), &word, out).count()
 }
 
 // The draws of a letter's rule.
 pub(crate) fn strokes_into(text: &[u8], lines: Lines, letter: u8, out: &mut [u8]) -> usize
     requires { ⌜ Sized lines × (288 ≤ length (now out)) ⌝ }
-    ensures { λ n. ⌜ (symbolsOf (take n (now (out .exit))) ≡ strokes (linesBy (now (text .entry)) lines) 1 letter) × (n ≤ length (now (out .entry))) ⌝ }
+    ensures { λ n. ⌜ (symbolsOf (take n (now (out .exit))) ≡ strokes (linesBy (now (text .entry)) lines) 1 letter) × (n ≤ 288) ⌝ }
 {
     let mut rule = [0u8; 24];
     let n = rule_into(text, lines, letter, &mut rule);
-    passed(text, draw_book(lines), &rule[0..n], out)
+    expand_once(text, draw_book(lines), &rule[0..n], out).count()
 }

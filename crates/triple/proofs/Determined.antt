@@ -1,23 +1,23 @@
 -- Each contract of this crate allows one answer alone. What an answer says, and a refusal's number, have left inverses: so two answers that say the same are the same.
--- Assumes nothing.
 use mathlib.Core.Path.{_≡_, refl, sym, ap, _∙_}
 use mathlib.Core.Bool.{Bool, _&&_}
 use mathlib.Core.List.{List, [], _∷_}
 use Prim.Native.Nat.{ℕ, _-_}
 use lib.Dec.{leb}
-use lib.IntN.{ℤ}
+use lib.IntN.{ℤ, pos}
 use lib.ListN.{getD}
 use Rattle.triple.specs.declared.Triple.{Triple}
 use Rattle.triple.specs.declared.ParityAnswer.{ParityAnswer}
 use Rattle.triple.specs.declared.FlavorAnswer.{FlavorAnswer}
-use Rattle.triple.specs.declared.orientation.Orientation.{Orientation}
-use Rattle.triple.specs.declared.orientation.OrientationAnswer.{OrientationAnswer}
+use Rattle.triple.specs.declared.domain.DomainAnswer.{DomainAnswer}
+use Rattle.triple.specs.declared.orientation.Recipe.{Recipe}
 use Rattle.triple.specs.declared.refusal.Refusal.{Refusal}
 use Rattle.triple.specs.declared.refusal.Refusal.the-variants as Is
 use Rattle.triple.specs.Refusals.{Told, told, refused, numberOf}
 use Rattle.triple.specs.Triples.{sumOf, inBounds, parityOf, flavorOf}
-use Rattle.triple.specs.Orientations.{orientationOf, orderOf}
-use Rattle.triple.specs.Answers.{saidParity, saidFlavor, saidOrientation}
+use Rattle.triple.specs.Domain.{greatestResolution, domainOf, rowCount, positionCount}
+use Rattle.triple.specs.Orientations.{recipeOf, placeFrom}
+use Rattle.triple.specs.Answers.{saidParity, saidFlavor, saidDomain}
 
 pub one-to-one : {A B : Type 0} (said : A → B) (back : B → A) → ((a : A) → back (said a) ≡ a) → (a b : A) → said a ≡ said b → a ≡ b
 one-to-one said back inverse a b p = sym (inverse a) ∙ ap back p ∙ inverse b
@@ -84,9 +84,9 @@ flavor-back : (a : FlavorAnswer) → answerOf FlavorAnswer.Flavor FlavorAnswer.R
 flavor-back (FlavorAnswer.Flavor f) = refl
 flavor-back (FlavorAnswer.Refused e) = ap FlavorAnswer.Refused (numbered e)
 
-orientation-back : (a : OrientationAnswer) → answerOf OrientationAnswer.Known OrientationAnswer.Refused (saidOrientation a) ≡ a
-orientation-back (OrientationAnswer.Known o) = refl
-orientation-back (OrientationAnswer.Refused e) = ap OrientationAnswer.Refused (numbered e)
+domain-back : (a : DomainAnswer) → answerOf (λ _. DomainAnswer.In) DomainAnswer.Refused (saidDomain a) ≡ a
+domain-back DomainAnswer.In = refl
+domain-back (DomainAnswer.Refused e) = ap DomainAnswer.Refused (numbered e)
 
 pub said-parity-one-to-one : (a b : ParityAnswer) → saidParity a ≡ saidParity b → a ≡ b
 said-parity-one-to-one = one-to-one saidParity (answerOf ParityAnswer.Parity ParityAnswer.Refused) parity-back
@@ -94,8 +94,8 @@ said-parity-one-to-one = one-to-one saidParity (answerOf ParityAnswer.Parity Par
 pub said-flavor-one-to-one : (a b : FlavorAnswer) → saidFlavor a ≡ saidFlavor b → a ≡ b
 said-flavor-one-to-one = one-to-one saidFlavor (answerOf FlavorAnswer.Flavor FlavorAnswer.Refused) flavor-back
 
-pub said-orientation-one-to-one : (a b : OrientationAnswer) → saidOrientation a ≡ saidOrientation b → a ≡ b
-said-orientation-one-to-one = one-to-one saidOrientation (answerOf OrientationAnswer.Known OrientationAnswer.Refused) orientation-back
+pub said-domain-one-to-one : (a b : DomainAnswer) → saidDomain a ≡ saidDomain b → a ≡ b
+said-domain-one-to-one = one-to-one saidDomain (answerOf (λ _. DomainAnswer.In) DomainAnswer.Refused) domain-back
 
 -- ---- the operations
 pub new-determined : (x y z : ℤ) (t u : Triple) → t ≡ record { x = x; y = y; z = z } → u ≡ record { x = x; y = y; z = z } → t ≡ u
@@ -108,17 +108,26 @@ pub parity-determined : (t : Triple) (a b : ParityAnswer) → saidParity a ≡ p
 parity-determined t = determined saidParity said-parity-one-to-one
 
 -- of `in_bounds`, and of `in_bounds_wide` at the triple of its numbers
-pub in-bounds-determined : (r : ℕ) (t : Triple) (a b : Bool) → a ≡ (leb r 30 && inBounds r t) → b ≡ (leb r 30 && inBounds r t) → a ≡ b
+pub in-bounds-determined : (r : ℕ) (t : Triple) (a b : Bool) → a ≡ (leb r greatestResolution && inBounds r t) → b ≡ (leb r greatestResolution && inBounds r t) → a ≡ b
 in-bounds-determined r t a b p q = p ∙ sym q
 
 pub flavor-determined : (r : ℕ) (t : Triple) (a b : FlavorAnswer) → saidFlavor a ≡ flavorOf r t → saidFlavor b ≡ flavorOf r t → a ≡ b
 flavor-determined r t = determined saidFlavor said-flavor-one-to-one
 
-pub orientation-determined : (o : ℕ) (a b : OrientationAnswer) → saidOrientation a ≡ orientationOf o → saidOrientation b ≡ orientationOf o → a ≡ b
-orientation-determined o = determined saidOrientation said-orientation-one-to-one
+pub domain-determined : (o r : ℕ) (a b : DomainAnswer) → saidDomain a ≡ domainOf o r → saidDomain b ≡ domainOf o r → a ≡ b
+domain-determined o r = determined saidDomain said-domain-one-to-one
 
-pub order-determined : (o : Orientation) (m n : ℕ) → m ≡ orderOf o → n ≡ orderOf o → m ≡ n
-order-determined o m n p q = p ∙ sym q
+pub row-count-determined : (r : ℕ) (m n : ℤ) → m ≡ pos (rowCount r) → n ≡ pos (rowCount r) → m ≡ n
+row-count-determined r m n p q = p ∙ sym q
+
+pub position-count-determined : (r m n : ℕ) → m ≡ positionCount r → n ≡ positionCount r → m ≡ n
+position-count-determined r m n p q = p ∙ sym q
+
+pub recipe-determined : (o : ℕ) (v w : Recipe) → v ≡ recipeOf o → w ≡ recipeOf o → v ≡ w
+recipe-determined o v w p q = p ∙ sym q
+
+pub place-determined : (backward : Bool) (n place p q : ℕ) → p ≡ placeFrom backward n place → q ≡ placeFrom backward n place → p ≡ q
+place-determined backward n place p q e f = e ∙ sym f
 
 pub number-determined : (e : Refusal) (m n : ℕ) → m ≡ numberOf e → n ≡ numberOf e → m ≡ n
 number-determined e m n p q = p ∙ sym q

@@ -1,14 +1,11 @@
 -- What the definitions of a triple give in each case, from what the code has in hand in that case. An order of whole numbers is one of their parts above and below 0, which `omega` reads.
--- Assumes nothing.
 use mathlib.Core.Path.{_≡_, refl, sym, ap, _∙_}
 use mathlib.Core.Bool.{Bool, true, false, not, _&&_}
 use mathlib.Core.List.{List, [], _∷_}
 use Prim.Native.Nat.{ℕ, _+_, _-_, _*_, _%_, _^_, _<_, _≤_}
 use native.Mathlib.Omega.{arith}
-use native.Mathlib.Nat.{one-mul}
-use lib.Dec.{T, lit<, leb}
+use lib.Dec.{T, leb}
 use lib.IntN.{ℤ, pos, negsuc, _+ℤ_, natAbs}
-use lib.Pow.{pow-mono, shl-exact}
 use lib.Signed.{ltZ, nonNeg}
 use mir.Syntax.{w8, w32, w64}
 use mir.Val.{SFits, Fits}
@@ -25,6 +22,7 @@ use Rattle.triple.specs.declared.refusal.Refusal.the-variants.{Resolutio
 use Rattle.triple.specs.Refusals.{Told, told, refused, refuse, numberOf}
 use Rattle.triple.specs.Triples.{sumOf, goodSum, maxRow, bounds, inBounds, parityOf, colorOf, closedFlavor, flavorOf}
 use Rattle.triple.specs.Answers.{saidParity}
+use Rattle.triple.proofs.DomainLaws.{rows-most}
 
 -- ---- what a test of two numbers tells, by their views
 less : {a b : ℤ} (l : View a) (m : View b) → T (l .ok && m .ok) → ltZ a b ≡ true → l .p + m .n < m .p + l .n
@@ -50,11 +48,8 @@ mixed-fits a b fa fb ha hb =
     fits-by (v-add (v-read a fa) (v-read b fb)) tt (omega arith) (omega arith)
 
 -- ---- the rows at a resolution
-pub rows-shifted : (r : ℕ) → r ≤ 30 → 1 * 2 ^ r % 2 ^ 64 ≡ 2 ^ r
-rows-shifted r h = shl-exact {a = 1} 1 r 64 (lit< tt) (omega arith) ∙ one-mul (2 ^ r)
-
 pub row-most : (r : ℕ) → r ≤ 30 → 2 ^ r - 1 ≤ 2 ^ 30
-row-most r h = omega (arith, pow-mono h)
+row-most r h = omega (arith, rows-most r h)
 
 abbrev pub v-row : (r : ℕ) → r ≤ 30 → View (maxRow r)
 v-row r h = v-upto (2 ^ r - 1) (2 ^ 30) (row-most r h)

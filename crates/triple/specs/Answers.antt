@@ -3,8 +3,7 @@ use Prim.Native.Nat.{ℕ}
 use Rattle.triple.specs.Refusals.{Told, told, refused, numberOf}
 use Rattle.triple.specs.declared.ParityAnswer.{ParityAnswer}
 use Rattle.triple.specs.declared.FlavorAnswer.{FlavorAnswer}
-use Rattle.triple.specs.declared.orientation.Orientation.{Orientation}
-use Rattle.triple.specs.declared.orientation.OrientationAnswer.{OrientationAnswer}
+use Rattle.triple.specs.declared.domain.DomainAnswer.{DomainAnswer}
 
 abbrev pub saidParity : ParityAnswer → Told ℕ
 saidParity (ParityAnswer.Parity p) = told p
@@ -14,6 +13,6 @@ abbrev pub saidFlavor : FlavorAnswer → Told ℕ
 saidFlavor (FlavorAnswer.Flavor f) = told f
 saidFlavor (FlavorAnswer.Refused e) = refused (numberOf e)
 
-abbrev pub saidOrientation : OrientationAnswer → Told Orientation
-saidOrientation (OrientationAnswer.Known o) = told o
-saidOrientation (OrientationAnswer.Refused e) = refused (numberOf e)
+abbrev pub saidDomain : DomainAnswer → Told (Unit {0})
+saidDomain DomainAnswer.In = told tt
+saidDomain (DomainAnswer.Refused e) = refused (numberOf e)

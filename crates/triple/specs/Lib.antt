@@ -1,4 +1,5 @@
 pub mod Refusals
-pub mod Triples
+pub mod Domain
 pub mod Orientations
+pub mod Triples
 pub mod Answers

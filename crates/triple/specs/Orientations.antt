@@ -1,24 +1,45 @@
--- The six orientations by their numbers.
-use Prim.Native.Nat.{ℕ}
-use mathlib.Core.List.{List, [], _∷_}
-use lib.Dec.{ltb}
-use lib.ListN.{getD}
-use Rattle.triple.specs.declared.orientation.Orientation.{Orientation}
-use Rattle.triple.specs.declared.orientation.Orientation.the-variants.{UV, VU, UW, WU, VW, WV}
-use Rattle.triple.specs.declared.refusal.Refusal.the-variants as Is
-use Rattle.triple.specs.Refusals.{Told, told, refuse}
+-- The six orientations by their numbers: 0 UV, 1 VU, 2 UW, 3 WU, 4 VW, 5 WV.
+use mathlib.Core.Bool.{Bool, cond, _||_}
+use Prim.Native.Nat.{ℕ, _+_, _-_, _^_}
+use lib.Dec.{leb, eqb}
+use lib.IntN.{pos, _+ℤ_, _-ℤ_}
+use Rattle.triple.specs.declared.Triple.{Triple}
+use Rattle.triple.specs.declared.orientation.Recipe.{Recipe}
 
--- from 0 up
-abbrev pub orientations : List Orientation
-orientations = UV ∷ VU ∷ UW ∷ WU ∷ VW ∷ WV ∷ []
+-- ---- how an orientation's curve is drawn
+-- the axiom's motif: A for UV and VU, C for UW and WU, B for VW and WV; A, B and C are the motifs 0, 1 and 2
+unfoldable pub axiomMotif : ℕ → ℕ
+axiomMotif o = cond (leb o 1) 0 (cond (leb o 3) 2 1)
 
-unfoldable pub orientationOf : ℕ → Told Orientation
-orientationOf o = refuse (ltb 5 o) Is.Orientation (told (getD orientations o UV))
+-- its letter
+unfoldable pub axiomOf : ℕ → ℕ
+axiomOf o = 65 + axiomMotif o
 
-unfoldable pub orderOf : Orientation → ℕ
-orderOf UV = 0
-orderOf VU = 1
-orderOf UW = 2
-orderOf WU = 3
-orderOf VW = 4
-orderOf WV = 5
+-- VU, WU and VW
+unfoldable pub isBackward : ℕ → Bool
+isBackward o = eqb o 1 || eqb o 3 || eqb o 4
+
+-- VW and WV
+unfoldable pub isShifted : ℕ → Bool
+isShifted o = eqb o 4 || eqb o 5
+
+unfoldable pub recipeOf : ℕ → Recipe
+recipeOf o = record { motif = axiomMotif o; backward = isBackward o; shifted = isShifted o }
+
+-- ---- the place of a position
+-- a place of n, or the place as far from the other end
+unfoldable pub placeFrom : Bool → ℕ → ℕ → ℕ
+placeFrom backward n place = cond backward (n - 1 - place) place
+
+-- s, or 4 ^ r - 1 - s in its place
+unfoldable pub curvePlace : ℕ → ℕ → ℕ → ℕ
+curvePlace o r s = placeFrom (isBackward o) (4 ^ r) s
+
+-- ---- where a triple is moved
+-- (x, y, z), or (x - 2 ^ r, y + 2 ^ r, z)
+unfoldable pub movedBy : Bool → ℕ → Triple → Triple
+movedBy moves r t =
+    cond moves (record { x = t .x -ℤ pos (2 ^ r); y = t .y +ℤ pos (2 ^ r); z = t .z }) t
+
+unfoldable pub shifted : ℕ → ℕ → Triple → Triple
+shifted o r t = movedBy (isShifted o) r t

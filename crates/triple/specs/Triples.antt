@@ -2,12 +2,12 @@
 use mathlib.Core.Bool.{Bool, not}
 use mathlib.Core.List.{List, [], _∷_}
 use Prim.Native.Nat.{ℕ, _+_, _-_, _*_, _%_, _^_}
-use lib.Dec.{ltb}
 use lib.IntN.{ℤ, pos, _+ℤ_, _-ℤ_, natAbs}
 use Rattle.whole.specs.Tests.{Test, _≤?_, pass}
 use Rattle.triple.specs.declared.Triple.{Triple}
-use Rattle.triple.specs.declared.refusal.Refusal.the-variants.{Resolution, Sum, Bounds}
+use Rattle.triple.specs.declared.refusal.Refusal.the-variants.{Sum, Bounds}
 use Rattle.triple.specs.Refusals.{Told, told, refuse}
+use Rattle.triple.specs.Domain.{atResolution}
 
 abbrev pub sumOf : Triple → ℤ
 sumOf t = t .x +ℤ t .y +ℤ t .z
@@ -41,7 +41,7 @@ closedFlavor r t = natAbs (sumOf t) + 2 * colorOf r t
 
 unfoldable pub flavorOf : ℕ → Triple → Told ℕ
 flavorOf r t =
-    refuse (ltb 30 r) Resolution
+    atResolution r
     (refuse (not (goodSum t)) Sum
     (refuse (not (inBounds r t)) Bounds
     (told (closedFlavor r t))))

@@ -1,14 +1,18 @@
 // Answers for the triple that names a cell of the lattice: its sum, parity, bounds and flavor; for
-// the six orientations of the curve; and for the refusals' numbers, which every crate above uses.
-// Where a triple's cell lies on the plane is `turtle`'s; which position names it is `lsystem`'s.
+// the domain of resolutions and orientations, and how each orientation's curve is drawn; and for the
+// refusals' numbers, which every crate above uses. Where a triple's cell lies on the plane is
+// `turtle`'s; which position names it is `lsystem`'s.
 ghost use mathlib.Core.Path.{_≡_};
 ghost use mathlib.Core.Bool.{_&&_};
 ghost use Prim.Native.Nat.{_≤_};
 ghost use lib.Dec.{leb};
+ghost use Rattle.triple.specs.Domain.{greatestResolution};
 ghost use Rattle.triple.specs.Triples.{sumOf, maxRow, inBounds, parityOf, colorOf, flavorOf};
 ghost use Rattle.triple.specs.Answers.{saidParity, saidFlavor};
+use domain::row_count;
 use refusal::Refusal;
 
+pub mod domain;
 pub mod orientation;
 pub mod refusal;
 
@@ -62,7 +66,7 @@ impl Triple {
 
     // Whether the triple names a cell at a resolution; there is none above the greatest.
     pub fn in_bounds(self, resolution: u8) -> bool
-        ensures { λ b. ⌜ b ≡ (leb resolution 30 && inBounds resolution self) ⌝ }
+        ensures { λ b. ⌜ b ≡ (leb resolution greatestResolution && inBounds resolution self) ⌝ }
     {
         in_bounds_wide(self.x as i64, self.y as i64, self.z as i64, resolution)
     }
@@ -89,7 +93,7 @@ impl Triple {
 // whether they fit an i32. No sum wraps: each is of a number from 0 up and one from 0 down.
 // That x is at least the sum less y says again that z is at most 0; of z it says so of x.
 pub fn in_bounds_wide(x: i64, y: i64, z: i64, resolution: u8) -> bool
-    ensures { λ b. ⌜ b ≡ (leb resolution 30 && inBounds resolution (record { x = x; y = y; z = z })) ⌝ }
+    ensures { λ b. ⌜ b ≡ (leb resolution greatestResolution && inBounds resolution (record { x = x; y = y; z = z })) ⌝ }
 {
     if resolution > Triple::GREATEST_RESOLUTION {
         return false;
@@ -124,7 +128,7 @@ fn max_row(resolution: u8) -> i64
     requires { ⌜ resolution ≤ 30 ⌝ }
     ensures { λ m. ⌜ m ≡ maxRow resolution ⌝ }
 {
-    ((1u64 << resolution) - 1) as i64
+    row_count(resolution) - 1
 }
 
 // The color of the apex of a cell's triangle: the higher bit of its flavor.

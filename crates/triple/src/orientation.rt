@@ -1,50 +1,47 @@
-// The six orientations of the curve: which corner of the wedge it starts at and which it ends at,
-// as WV starts at w and ends at v.
+// The six orientations of the curve: which corner of the wedge it starts at and which it ends at, as WV
+// starts at w and ends at v. By their numbers they are 0 UV, 1 VU, 2 UW, 3 WU, 4 VW and 5 WV.
 ghost use mathlib.Core.Path.{_≡_};
-ghost use Rattle.triple.specs.Orientations.{orientationOf, orderOf};
-ghost use Rattle.triple.specs.Answers.{saidOrientation};
-use crate::refusal::Refusal;
+ghost use Rattle.triple.specs.Orientations.{recipeOf, placeFrom};
 
-pub enum Orientation {
-    UV,
-    VU,
-    UW,
-    WU,
-    VW,
-    WV,
+pub const GREATEST_ORIENTATION: u8 = 5;
+
+// How an orientation's curve is drawn: its axiom's motif (A 0, B 1, C 2), whether it is walked from its
+// other end, and whether its triples are moved.
+pub struct Recipe {
+    pub motif: u64,
+    pub backward: bool,
+    pub shifted: bool,
 }
 
-pub enum OrientationAnswer {
-    Known(Orientation),
-    Refused(Refusal),
+// Read off words and not by arms: where orientations are mixed, a branch by them costs as much as a short
+// descent. Past the last orientation it is what the definitions' last cases have.
+pub fn recipe_of(orientation: u8) -> Recipe
+    ensures { λ w. ⌜ w ≡ recipeOf orientation ⌝ }
+{
+    if orientation > GREATEST_ORIENTATION {
+        return Recipe {
+            motif: 1,
+            backward: false,
+            shifted: false,
+        };
+    }
+    let o = orientation as u64;
+    Recipe {
+        motif: (0b010110100000u64 >> (2 * o)) % 4,
+        backward: (0b011010u64 >> o) % 2 == 1,
+        shifted: orientation > 3,
+    }
 }
 
-impl Orientation {
-    // The orientation of a number from 0 to 5.
-    pub fn of_number(o: u8) -> OrientationAnswer
-        ensures { λ a. ⌜ saidOrientation a ≡ orientationOf o ⌝ }
-    {
-        match o {
-            0 => OrientationAnswer::Known(Orientation::UV),
-            1 => OrientationAnswer::Known(Orientation::VU),
-            2 => OrientationAnswer::Known(Orientation::UW),
-            3 => OrientationAnswer::Known(Orientation::WU),
-            4 => OrientationAnswer::Known(Orientation::VW),
-            5 => OrientationAnswer::Known(Orientation::WV),
-            _ => OrientationAnswer::Refused(Refusal::Orientation),
-        }
+// A place of `count`, or the place as far from the other end. From past the end that is the first.
+pub fn place_from(backward: bool, count: u64, place: u64) -> u64
+    ensures { λ p. ⌜ p ≡ placeFrom backward count place ⌝ }
+{
+    if !backward {
+        return place;
     }
-
-    pub fn number(self) -> u8
-        ensures { λ o. ⌜ o ≡ orderOf self ⌝ }
-    {
-        match self {
-            Orientation::UV => 0,
-            Orientation::VU => 1,
-            Orientation::UW => 2,
-            Orientation::WU => 3,
-            Orientation::VW => 4,
-            Orientation::WV => 5,
-        }
+    if place >= count {
+        return 0;
     }
+    count - 1 - place
 }

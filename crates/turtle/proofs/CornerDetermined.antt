@@ -1,5 +1,4 @@
 -- Each contract on pairs and corner sums allows one result alone. What an answer says has a left inverse: so two answers that say the same are the same.
--- Assumes nothing.
 use mathlib.Core.Path.{_≡_, refl, sym, ap, _∙_}
 use mathlib.Core.Bool.{Bool}
 use lib.IntN.{ℤ}

@@ -1,5 +1,4 @@
 -- A triple of sum 0 or 1 and its corner sum name each other, by linear equations: of a triple of sum s, b + 4 + 4 s is 12 x and a - 8 + 4 s is 12 y.
--- Assumes nothing.
 use native.Mathlib.Omega.{arith}
 use mathlib.Core.Path.{_≡_, refl, sym, ap, _∙_, subst}
 use mathlib.Core.Logic.{_⊎_, inl, inr, ⊎-elim}
@@ -7,7 +6,7 @@ use mathlib.Core.Bool.{Bool, true, false, not, _&&_, true≢false}
 use mathlib.Core.List.{List, [], _∷_}
 use Prim.Native.Nat.{ℕ, _≤_, _<_, _*_, _^_}
 use borrow.Author.Tests.{not-true, not-false}
-use lib.IntN.{ℤ, pos, negsuc, negℤ, _+ℤ_, _-ℤ_}
+use lib.IntN.{ℤ, pos, negsuc, _+ℤ_, _-ℤ_}
 use lib.Signed.{_≤ℤ_, leZ, mag, quotZ}
 use mir.Syntax.{w64}
 use mir.Val.{toZ, ofZ}
@@ -23,7 +22,9 @@ use Rattle.triple.specs.Triples.{sumOf, goodSum}
 use Rattle.turtle.specs.declared.AB.{AB}
 use Rattle.turtle.specs.declared.corner.Wide.{Wide}
 use Rattle.turtle.specs.Plane.{far}
-use Rattle.turtle.specs.Corners.{cornerSum, cornerSumOf, candidate, has, fits32, same, tripleOf, FitsI32, ThreeI32, HasTriple}
+use Rattle.turtle.specs.Inside.Sizes.{Within}
+use Rattle.turtle.specs.Corners.{cornerSum, cornerSumOf, candidate, hasCornerSum, fits32, same, tripleOf, FitsI32, ThreeI32, HasTriple}
+use Rattle.turtle.proofs.LimitLaws.{far-false}
 
 -- ---- the flag that a comparison gives is the one to return
 pub flag-is : (f g : Bool) → (f ≡ true → true ≡ g) → (f ≡ false → false ≡ g) → f ≡ g
@@ -43,37 +44,6 @@ wide w = triple (w .x) (w .y) (w .z)
 
 pub triple-is : {t u : Triple} → t .x ≡ u .x → t .y ≡ u .y → t .z ≡ u .z → t ≡ u
 triple-is f g h = λ i. record { x = f i; y = g i; z = h i }
-
--- ---- a pair that is not far
-pub record Near (p : AB) : Type 0 where
-  pub a-low : negsuc 17179869183 ≤ℤ p .a
-  pub a-high : p .a ≤ℤ pos 17179869184
-  pub b-low : negsuc 17179869183 ≤ℤ p .b
-  pub b-high : p .b ≤ℤ pos 17179869184
-
-abbrev near : AB → List Test
-near p = (negsuc 17179869183 ≤? p .a) ∷ (p .a ≤? pos 17179869184) ∷ (negsuc 17179869183 ≤? p .b) ∷ (p .b ≤? pos 17179869184) ∷ []
-
-near-hold : (p : AB) → Hold (near p) → Near p
-near-hold p h = record { a-low = h .0; a-high = h .1 .0; b-low = h .1 .1 .0; b-high = h .1 .1 .1 .0 }
-
-pub near-of : (p : AB) → far p ≡ false → Near p
-unfolding far
-near-of p e = near-hold p (pass-true (near p) (not-false (pass (near p)) e))
-
-pub far-true : (p : AB) → (Near p → ⊥) → true ≡ far p
-unfolding far
-far-true p f = ap not (false-pass (near p) (λ h. f (near-hold p h)))
-
-pub far-false : (p : AB) → Near p → false ≡ far p
-unfolding far
-far-false p n = ap not (true-pass (near p) (n .a-low, (n .a-high, (n .b-low, (n .b-high, tt)))))
-
-abbrev pub v-near-a : {p : AB} → Near p → View (p .a)
-v-near-a n = v-within 17179869184 17179869184 (n .a-low) (n .a-high)
-
-abbrev pub v-near-b : {p : AB} → Near p → View (p .b)
-v-near-b n = v-within 17179869184 17179869184 (n .b-low) (n .b-high)
 
 -- ---- coordinates that are i32
 abbrev pub v-fits : {v : ℤ} → FitsI32 v → View v
@@ -169,10 +139,6 @@ corner-sum-unique t u g h e =
     triple-is (eq-by tx ux tt (omega arith)) (eq-by ty uy tt (omega arith)) (eq-by tz uz tt (omega arith))
 
 -- ---- the corner sum of a triple of at most 2 ^ 30 in size, as every cell in bounds has, is near
-pub record Within (k : ℕ) (v : ℤ) : Type 0 where
-  pub low : negℤ (pos k) ≤ℤ v
-  pub high : v ≤ℤ pos k
-
 pub corner-sum-near : (t : Triple) → Within 1073741824 (t .x) → Within 1073741824 (t .y) → goodSum t ≡ true → far (cornerSum t) ≡ false
 unfolding cornerSum
 corner-sum-near t wx wy g =
@@ -186,10 +152,8 @@ corner-sum-near t wx wy g =
     let y-low = le-of (search view) (search view) tt (wy .low) in
     let y-high = le-of (search view) (search view) tt (wy .high) in
     sym (far-false (cornerSum t) (record {
-      a-low = le-by (search view depth 12) (search view depth 12) tt (omega arith);
-      a-high = le-by (search view depth 12) (search view depth 12) tt (omega arith);
-      b-low = le-by (search view depth 12) (search view depth 12) tt (omega arith);
-      b-high = le-by (search view depth 12) (search view depth 12) tt (omega arith);
+      a = record { low = le-by (search view depth 12) (search view depth 12) tt (omega arith); high = le-by (search view depth 12) (search view depth 12) tt (omega arith) };
+      b = record { low = le-by (search view depth 12) (search view depth 12) tt (omega arith); high = le-by (search view depth 12) (search view depth 12) tt (omega arith) };
     }))
 
 -- that of a larger one need not be, though each coordinate is an i32
@@ -237,12 +201,12 @@ has-hold p t h = record {
   narrow = narrow-hold t (h .1 .1 .1 .1);
 }
 
-pub has-of : (p : AB) (t : Triple) → has p t ≡ true → Has p t
-unfolding has
+pub has-of : (p : AB) (t : Triple) → hasCornerSum p t ≡ true → Has p t
+unfolding hasCornerSum
 has-of p t e = has-hold p t (pass-true (tests p t) e)
 
-pub has-false : (p : AB) (t : Triple) → (Has p t → ⊥) → false ≡ has p t
-unfolding has
+pub has-false : (p : AB) (t : Triple) → (Has p t → ⊥) → false ≡ hasCornerSum p t
+unfolding hasCornerSum
 has-false p t f = false-pass (tests p t) (λ h. f (has-hold p t h))
 
 le-refl : (a : ℤ) → a ≤ℤ a
@@ -256,17 +220,17 @@ holds t n =
     let b = le-refl (cornerSum t .b) in
     (a, (a, (b, (b, hold-narrow t n))))
 
-pub has-true : (p : AB) (t : Triple) → Has p t → true ≡ has p t
-unfolding has
-has-true p t h = subst (λ (q : AB). true ≡ has q t) (h .sum) (true-pass (tests (cornerSum t) t) (holds t (h .narrow)))
+pub has-true : (p : AB) (t : Triple) → Has p t → true ≡ hasCornerSum p t
+unfolding hasCornerSum
+has-true p t h = subst (λ (q : AB). true ≡ hasCornerSum q t) (h .sum) (true-pass (tests (cornerSum t) t) (holds t (h .narrow)))
 
-pub has-wide : (p : AB) (x y z : ℤ) (f : Bool) → f ≡ pass (fits32 x (fits32 y (fits32 z []))) → not f ≡ true → false ≡ has p (triple x y z)
+pub has-wide : (p : AB) (x y z : ℤ) (f : Bool) → f ≡ pass (fits32 x (fits32 y (fits32 z []))) → not f ≡ true → false ≡ hasCornerSum p (triple x y z)
 has-wide p x y z f e n = has-false p (triple x y z) (λ h. true≢false (sym (narrow-true (triple x y z) (h .narrow)) ∙ sym e ∙ not-true f n))
 
 pub narrow-flag : (x y z : ℤ) (f : Bool) → f ≡ pass (fits32 x (fits32 y (fits32 z []))) → not f ≡ false → pass (fits32 x (fits32 y (fits32 z []))) ≡ true
 narrow-flag x y z f e n = sym e ∙ not-false f n
 
-pub has-narrow : (p : AB) (x y z : ℤ) (f : Bool) → f ≡ has p (triple x y z) → f ≡ true → pass (fits32 x (fits32 y (fits32 z []))) ≡ true
+pub has-narrow : (p : AB) (x y z : ℤ) (f : Bool) → f ≡ hasCornerSum p (triple x y z) → f ≡ true → pass (fits32 x (fits32 y (fits32 z []))) ≡ true
 has-narrow p x y z f e h = narrow-true (triple x y z) (has-of p (triple x y z) (sym e ∙ h) .narrow)
 
 -- ---- the triple of a pair, case by case
@@ -278,12 +242,12 @@ module _ (p : AB) (f : Bool) (ef : f ≡ far p) where
   unfolding tripleOf
   triple-far e = rw (← ef, e)
 
-  module _ (near : f ≡ false) (t : Triple) (et : candidate 0 p ≡ t) (h : Bool) (eh : h ≡ has p t) where
+  module _ (near : f ≡ false) (t : Triple) (et : candidate 0 p ≡ t) (h : Bool) (eh : h ≡ hasCornerSum p t) where
     pub triple-even : (r : Triple) → r ≡ t → h ≡ true → told r ≡ tripleOf p
     unfolding tripleOf
     triple-even r er e = rw (← ef, near, et, ← eh, e, er)
 
-    module _ (no : h ≡ false) (u : Triple) (eu : candidate 1 p ≡ u) (k : Bool) (ek : k ≡ has p u) where
+    module _ (no : h ≡ false) (u : Triple) (eu : candidate 1 p ≡ u) (k : Bool) (ek : k ≡ hasCornerSum p u) where
       pub triple-odd : (r : Triple) → r ≡ u → k ≡ true → told r ≡ tripleOf p
       unfolding tripleOf
       triple-odd r er e = rw (← ef, near, et, ← eh, no, eu, ← ek, e, er)
@@ -293,7 +257,7 @@ module _ (p : AB) (f : Bool) (ef : f ≡ far p) where
       triple-none e = rw (← ef, near, et, ← eh, no, eu, ← ek, e)
 
 -- ---- the inverse, exactly
-names-candidate : (s : ℕ) → s ≤ 1 → (p : AB) → far p ≡ false → has p (candidate s p) ≡ true → HasTriple p (candidate s p)
+names-candidate : (s : ℕ) → s ≤ 1 → (p : AB) → far p ≡ false → hasCornerSum p (candidate s p) ≡ true → HasTriple p (candidate s p)
 names-candidate s l p f h =
     let k = has-of p (candidate s p) h in
     record { narrow = k .narrow; good = sum-good (candidate s p) s l (candidate-sum s p); sum = k .sum; near = f }
@@ -303,9 +267,9 @@ Answered p = ((t : Triple) × HasTriple p t × (tripleOf p ≡ told t)) ⊎ (tri
 
 pub inverse-refused : (p : AB) → Answered p
 unfolding numberOf
-inverse-refused p = go (far p) (has p (candidate 0 p)) (has p (candidate 1 p)) refl refl refl
+inverse-refused p = go (far p) (hasCornerSum p (candidate 0 p)) (hasCornerSum p (candidate 1 p)) refl refl refl
   where
-    go : (f h k : Bool) → far p ≡ f → has p (candidate 0 p) ≡ h → has p (candidate 1 p) ≡ k → Answered p
+    go : (f h k : Bool) → far p ≡ f → hasCornerSum p (candidate 0 p) ≡ h → hasCornerSum p (candidate 1 p) ≡ k → Answered p
     go true h k ef eh ek = inr (sym (triple-far p _ refl ef))
     go false true k ef eh ek = inl (candidate 0 p, names-candidate 0 (omega arith) p ef eh, sym (triple-even p _ refl ef _ refl _ refl _ refl eh))
     go false false true ef eh ek = inl (candidate 1 p, names-candidate 1 (omega arith) p ef ek, sym (triple-odd p _ refl ef _ refl _ refl eh _ refl _ refl _ refl ek))
@@ -332,16 +296,16 @@ inverse-complete p t n = ⊎-elim even odd (zero-or-one (sumOf t) (good-of t (n 
     candidate-is : (s : ℕ) → sumOf t ≡ pos s → candidate s p ≡ t
     candidate-is s e = subst (λ (q : AB). candidate s q ≡ t) (n .sum) (candidate-of s t e)
 
-    found : true ≡ has p t
+    found : true ≡ hasCornerSum p t
     found = has-true p t (record { sum = n .sum; narrow = n .narrow })
 
     even : sumOf t ≡ pos 0 → tripleOf p ≡ told t
     even e = sym (triple-even p _ refl (n .near) t (candidate-is 0 e) true found t refl refl)
 
     odd : sumOf t ≡ pos 1 → tripleOf p ≡ told t
-    odd e = go (has p (candidate 0 p)) refl
+    odd e = go (hasCornerSum p (candidate 0 p)) refl
       where
-        go : (h : Bool) → has p (candidate 0 p) ≡ h → tripleOf p ≡ told t
+        go : (h : Bool) → hasCornerSum p (candidate 0 p) ≡ h → tripleOf p ≡ told t
         go true eh =
             let k = names-candidate 0 (omega arith) p (n .near) eh in
             sym (triple-even p _ refl (n .near) _ refl _ refl t (corner-sum-unique t (candidate 0 p) (n .good) (k .good) (n .sum ∙ sym (k .sum))) eh)

@@ -1,5 +1,4 @@
 -- What a byte draws: the stroke of its row, or nothing; how short every stroke is, by one test over the ten rows; and a flavor's low bit.
--- Assumes nothing.
 use mathlib.Core.Path.{_≡_, refl, sym, ap, _∙_, subst}
 use mathlib.Core.Bool.{Bool, true, false, cond, _&&_}
 use mathlib.Core.List.{List, [], _∷_}
@@ -18,7 +17,7 @@ use Rattle.turtle.specs.declared.letter.Flavor.{Flavor}
 use Rattle.turtle.specs.declared.letter.Letter.{Letter}
 use Rattle.turtle.specs.Letters.{toggled, Row, letters, lookup, strokeOf}
 use Rattle.turtle.specs.Walk.{turnedFlavor}
-use Rattle.turtle.specs.Sizes.{Short, SmallStroke}
+use Rattle.turtle.specs.Inside.Sizes.{Short, SmallStroke}
 
 -- ---- a byte of a row, with the pairs that the code made
 abbrev pub stroke : AB → AB → AB → AB → Flavor → Stroke

@@ -1,5 +1,4 @@
 -- What a text of bytes draws: what its parts draw, one after the other. And a lowercase letter steps as its uppercase one does, by one computation over the alphabet.
--- Assumes nothing.
 use mathlib.Core.Path.{_≡_, refl, sym, subst}
 use mathlib.Core.List.{List, [], _∷_, _++_, append-assoc}
 use mathlib.Core.Option.{Option, none, some}

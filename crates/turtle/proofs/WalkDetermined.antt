@@ -1,5 +1,4 @@
 -- The contracts of the letters and of a step leave one answer each: what equals the definition's is that.
--- Assumes nothing.
 use mathlib.Core.Path.{_≡_, sym, _∙_}
 use Prim.Native.Nat.{ℕ}
 use Rattle.turtle.specs.declared.letter.Letter.{Letter}

@@ -1,17 +1,14 @@
 -- Sizes along a walk: a rotation keeps a pair's size and a sum adds two, so that a corner of a cell near the limit still fits.
 -- And what a step answers in each case, in the form of what the code has in hand.
--- Assumes nothing.
-use mathlib.Core.Path.{_≡_, refl, sym, ap, _∙_}
-use mathlib.Core.Bool.{Bool, true, false, not, _&&_}
-use mathlib.Core.List.{List, [], _∷_}
+use mathlib.Core.Path.{_≡_, sym, ap, _∙_}
+use mathlib.Core.Bool.{Bool, true, false, _&&_}
+use mathlib.Core.List.{[], _∷_}
 use Prim.Native.Nat.{ℕ, zero, suc, _+_, _%_, _≤_}
 use native.Mathlib.Omega.{arith}
-use borrow.Author.Tests.{not-false, eq-eqb, ne-eqb}
+use borrow.Author.Tests.{eq-eqb, ne-eqb}
 use lib.Dec.{T}
-use lib.IntN.{ℤ, pos, negsuc}
-use Rattle.whole.specs.Tests.{Test, _≤?_, pass}
+use lib.IntN.{ℤ}
 use Rattle.whole.proofs.Bools.{both, both-left, both-right}
-use Rattle.whole.proofs.TestLaws.{Hold, true-pass, false-pass, pass-true}
 use Rattle.whole.proofs.Parts.{up, dn}
 use Rattle.whole.proofs.View.{View, view, v-var, v-pos, v-neg, v-add, v-within, le-by, le-of}
 use Rattle.turtle.specs.declared.AB.{AB}
@@ -25,7 +22,7 @@ use Rattle.turtle.specs.declared.walk.Hosted.{Hosted}
 use Rattle.turtle.specs.Plane.{ab, _⊕_, rot, rots, far}
 use Rattle.turtle.specs.Letters.{strokeOf}
 use Rattle.turtle.specs.Walk.{letter, symbolOf, turtle, move, corner, corners, turnedFlavor, cell, faced, stepBy, stepOf, cornersOf}
-use Rattle.turtle.specs.Sizes.{Within, Small, Short, Near, Roomy, SmallStroke}
+use Rattle.turtle.specs.Inside.Sizes.{Within, Small, Short, Near, Roomy, SmallStroke}
 
 -- ---- a size, by a view, and a view by a size: up less dn is at most n in size
 abbrev Sized : ℕ → ℕ → ℕ → Type 0
@@ -66,35 +63,16 @@ pub add-small : {m n : ℕ} {p q : AB} → Small m p → Small n q → Small (m 
 unfolding _⊕_
 add-small {m} {n} {p} {q} s t = small-by (v-add (v-var (p .a)) (v-var (q .a))) (v-add (v-var (p .b)) (v-var (q .b))) tt (omega (arith, small-of s, small-of t))
 
--- ---- beyond the limit, and not
-abbrev pub limits : AB → List Test
-limits p = (negsuc 17179869183 ≤? p .a) ∷ (p .a ≤? pos 17179869184) ∷ (negsuc 17179869183 ≤? p .b) ∷ (p .b ≤? pos 17179869184) ∷ []
-
-pub far-by : (p : AB) → (Hold (limits p) → ⊥) → true ≡ far p
-unfolding far
-far-by p h = ap not (false-pass (limits p) h)
-
--- a test that decides it
-pub far-is : (p : AB) (t : Bool) → (t ≡ true → Hold (limits p) → ⊥) → (t ≡ false → Hold (limits p)) → t ≡ far p
-unfolding far
-far-is p true h k = far-by p (h refl)
-far-is p false h k = ap not (true-pass (limits p) (k refl))
-
-pub near-of : (p : AB) {lost : Bool} → lost ≡ far p → lost ≡ false → Near p
-unfolding far
-near-of p e f =
-    let h = pass-true (limits p) (not-false (pass (limits p)) (sym e ∙ f)) in
+-- ---- room for the sums
+-- a and b of a near pair are at most 2 ^ 34, and so a + b at most 2 ^ 35
+near-small : {p : AB} → Near p → Small 34359738368 p
+near-small {p} n =
     let va = v-var (p .a) in
     let vb = v-var (p .b) in
-    let al = le-of (search view) va tt (h .0) in
-    let ah = le-of va (search view) tt (h .1 .0) in
-    let bl = le-of (search view) vb tt (h .1 .1 .0) in
-    let bh = le-of vb (search view) tt (h .1 .1 .1 .0) in
-    small-by va vb tt (omega arith)
+    small-by va vb tt (omega (arith, within-of va tt (n .a), within-of vb tt (n .b)))
 
--- ---- room for the sums
 pub near-roomy : {p : AB} → Near p → Roomy p
-near-roomy s = small-more (omega arith) s
+near-roomy n = small-more (omega arith) (near-small n)
 
 pub rots-roomy : (h : ℕ) {c q : AB} → q ≡ rots h c → Short c → Roomy q
 rots-roomy h e s = rw e (small-more (omega arith) (rots-small h s))
@@ -103,9 +81,9 @@ module _ (s : Stroke) (t : Turtle) (cs : Corners) (e : cs ≡ corners s t) where
   pub corners-roomy : SmallStroke s → Near (t .at) → Roomy (cs .p) × Roomy (cs .q) × Roomy (cs .r) × Roomy (cs .p ⊕ cs .q)
   unfolding corners corner
   corners-roomy w n =
-      let p = add-small n (rots-small (t .heading) (w .p)) in
-      let q = add-small n (rots-small (t .heading) (w .q)) in
-      let r = add-small n (rots-small (t .heading) (w .r)) in
+      let p = add-small (near-small n) (rots-small (t .heading) (w .p)) in
+      let q = add-small (near-small n) (rots-small (t .heading) (w .q)) in
+      let r = add-small (near-small n) (rots-small (t .heading) (w .r)) in
       rw e (small-more (omega arith) p, small-more (omega arith) q, small-more (omega arith) r, small-more (omega arith) (add-small p q))
 
   pub cell-at : {u v : AB} {f : Flavor} → u ≡ cs .p ⊕ cs .q → v ≡ u ⊕ cs .r → f ≡ turnedFlavor (t .heading) (s .flavor) → record { sum = v; flavor = f } ≡ cell s t

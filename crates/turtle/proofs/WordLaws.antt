@@ -8,7 +8,7 @@ use Rattle.turtle.specs.declared.AB.{AB}
 use Rattle.turtle.specs.declared.letter.Stroke.{Stroke}
 use Rattle.turtle.specs.declared.letter.Flavor.{Flavor}
 use Rattle.turtle.specs.declared.walk.Turtle.{Turtle}
-use Rattle.turtle.specs.declared.walk.Cell.{Cell}
+use Rattle.turtle.specs.declared.walk.DrawnCell.{DrawnCell}
 use Rattle.turtle.specs.Plane.{origin, _⊕_, thrice, rots, signed, facing, flipped}
 use Rattle.turtle.specs.Letters.{toggled}
 use Rattle.turtle.specs.Walk.{Sym, left, right, letter, turtle, start, move, corner, turnedFlavor, cell, cells, final}
@@ -40,7 +40,7 @@ spin true h = (h + 3) % 6
 unfoldable onto : AB → Bool → Turtle → Turtle
 onto v f t = turtle (v ⊕ signed f (t .at)) (spin f (t .heading))
 
-unfoldable pub placed : AB → Bool → Cell → Cell
+unfoldable pub placed : AB → Bool → DrawnCell → DrawnCell
 placed v f c = record { sum = thrice v ⊕ signed f (c .sum); flavor = turnedFlavor (facing f) (c .flavor) }
 
 -- ---- headings and flavors
@@ -138,14 +138,14 @@ module _ (w : List (Sym Stroke)) (v : AB) (h : ℕ) (f : Bool) (e : h ≡ facing
   final-from p k = rw (e, ← (onto-start v f), final-onto, k) (onto-home v f p)
 
 -- ---- a placed cell
-pub placed-placed : (v : AB) (f : Bool) (u : AB) (k : Bool) (c : Cell) → placed v f (placed u k c) ≡ placed (v ⊕ signed f u) (flipped f k) c
+pub placed-placed : (v : AB) (f : Bool) (u : AB) (k : Bool) (c : DrawnCell) → placed v f (placed u k c) ≡ placed (v ⊕ signed f u) (flipped f k) c
 unfolding placed
 placed-placed v f u k c = simp (flavor-flipped, signed-⊕, ← (signed-flipped f k (c .sum)), thrice-⊕, thrice-signed, ⊕-assoc)
 
-pub placed-start : (c : Cell) → placed origin false c ≡ c
+pub placed-start : (c : DrawnCell) → placed origin false c ≡ c
 unfolding placed signed facing
 placed-start c = simp (thrice-origin, flavor-zero, ⊕-idl)
 
-pub placed-shift : (v : AB) (f : Bool) (c : Cell) → record { sum = thrice v ⊕ placed origin f c .sum; flavor = placed origin f c .flavor } ≡ placed v f c
+pub placed-shift : (v : AB) (f : Bool) (c : DrawnCell) → record { sum = thrice v ⊕ placed origin f c .sum; flavor = placed origin f c .flavor } ≡ placed v f c
 unfolding placed
 placed-shift v f c = simp (thrice-origin, ⊕-idl)

@@ -1,6 +1,6 @@
 -- The corner sum of a triple's cell, and the triple that has a corner sum.
 use mathlib.Core.Path.{_≡_}
-use mathlib.Core.Bool.{Bool, true, false, not, _&&_, cond}
+use mathlib.Core.Bool.{Bool, true, false, not, cond}
 use mathlib.Core.List.{List, [], _∷_}
 use Prim.Native.Nat.{ℕ, _*_}
 use lib.IntN.{ℤ, pos, negsuc, _+ℤ_, _-ℤ_, _*ℤ_}
@@ -37,14 +37,14 @@ candidate s p =
     record { x = x; y = y; z = pos s -ℤ x -ℤ y }
 
 -- whether there is: the triple has that corner sum, and each coordinate is an i32
-unfoldable pub has : AB → Triple → Bool
-has p t = pass (same (cornerSum t) p (fits32 (t .x) (fits32 (t .y) (fits32 (t .z) []))))
+unfoldable pub hasCornerSum : AB → Triple → Bool
+hasCornerSum p t = pass (same (cornerSum t) p (fits32 (t .x) (fits32 (t .y) (fits32 (t .z) []))))
 
 unfoldable pub tripleOf : AB → Told Triple
 tripleOf p =
     refuse (far p) Pair
-    (cond (has p (candidate 0 p)) (told (candidate 0 p))
-    (cond (has p (candidate 1 p)) (told (candidate 1 p)) (refused (numberOf Pair))))
+    (cond (hasCornerSum p (candidate 0 p)) (told (candidate 0 p))
+    (cond (hasCornerSum p (candidate 1 p)) (told (candidate 1 p)) (refused (numberOf Pair))))
 
 -- ---- the inverse, exactly
 -- a coordinate is an i32

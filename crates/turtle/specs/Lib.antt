@@ -3,4 +3,4 @@ pub mod Letters
 pub mod Walk
 pub mod Corners
 pub mod Answers
-pub mod Sizes
+pub mod Inside

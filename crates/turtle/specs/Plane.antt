@@ -3,15 +3,11 @@ use mathlib.Core.Bool.{Bool, true, false, not, _&&_}
 use mathlib.Core.List.{[], _∷_}
 use Prim.Native.Nat.{ℕ, zero, suc}
 use lib.IntN.{ℤ, pos, negsuc, negℤ, _+ℤ_}
-use lib.Signed.{leZ}
-use Rattle.whole.specs.Tests.{_≤?_, pass}
+use Rattle.whole.specs.Tests.{_≤?_, pass, equal}
 use Rattle.turtle.specs.declared.AB.{AB}
 
 abbrev pub ab : ℤ → ℤ → AB
 ab a b = record { a = a; b = b }
-
-abbrev pub equal : ℤ → ℤ → Bool
-equal x y = leZ x y && leZ y x
 
 abbrev pub equalAB : AB → AB → Bool
 equalAB p q = equal (p .a) (q .a) && equal (p .b) (q .b)

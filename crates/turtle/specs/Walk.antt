@@ -1,5 +1,5 @@
 -- The turtle's walk: turns and strokes, the cells that it draws, where it ends.
-use mathlib.Core.Bool.{Bool, cond}
+use mathlib.Core.Bool.{cond}
 use mathlib.Core.List.{List, [], _∷_, _++_}
 use Prim.Native.Nat.{ℕ, _+_, _%_}
 use lib.Dec.{eqb}
@@ -8,7 +8,7 @@ use Rattle.turtle.specs.declared.letter.Stroke.{Stroke}
 use Rattle.turtle.specs.declared.letter.Flavor.{Flavor}
 use Rattle.turtle.specs.declared.letter.Letter.{Letter}
 use Rattle.turtle.specs.declared.walk.Turtle.{Turtle}
-use Rattle.turtle.specs.declared.walk.Cell.{Cell}
+use Rattle.turtle.specs.declared.walk.DrawnCell.{DrawnCell}
 use Rattle.turtle.specs.declared.walk.Corners.{Corners}
 use Rattle.turtle.specs.declared.walk.Stepped.{Stepped}
 use Rattle.turtle.specs.declared.walk.Hosted.{Hosted}
@@ -57,11 +57,11 @@ turnedFlavor h (Flavor.Of f) = Flavor.Of (toggled h f)
 turnedFlavor h Flavor.None = Flavor.None
 
 -- the cell: the sum of its three corners, and its flavor
-unfoldable pub cell : Stroke → Turtle → Cell
+unfoldable pub cell : Stroke → Turtle → DrawnCell
 cell s t = record { sum = corner t (s .p) ⊕ corner t (s .q) ⊕ corner t (s .r); flavor = turnedFlavor (t .heading) (s .flavor) }
 
 -- the cells drawn along a word, in order, and where the turtle ends
-unfoldable pub cells : List (Sym Stroke) → Turtle → List Cell
+unfoldable pub cells : List (Sym Stroke) → Turtle → List DrawnCell
 cells [] t = []
 cells (left ∷ w) t = cells w (move left t)
 cells (right ∷ w) t = cells w (move right t)

@@ -4,7 +4,7 @@ ghost use mathlib.Core.Bool.{true, false};
 ghost use mathlib.Core.List.{[]};
 ghost use Prim.Native.Nat.{_≤_};
 ghost use Rattle.whole.specs.Tests.{pass};
-ghost use Rattle.turtle.specs.Corners.{cornerSum, cornerSumOf, candidate, has, fits32, tripleOf};
+ghost use Rattle.turtle.specs.Corners.{cornerSum, cornerSumOf, candidate, hasCornerSum, fits32, tripleOf};
 ghost use Rattle.turtle.specs.Plane.{far};
 ghost use Rattle.turtle.specs.Answers.{saidCorner, saidTriple};
 use crate::AB;
@@ -108,8 +108,8 @@ fn narrowed(w: Wide) -> Triple
 
 // Whether the coordinates are a triple's that has the corner sum p. The sum of the three proves
 // nothing: the halves of a pair off the lattice can sum to 0 as well.
-fn has(p: AB, w: Wide) -> bool
-    ensures { λ b. ⌜ b ≡ has p (record { x = w .x; y = w .y; z = w .z }) ⌝ }
+fn has_corner_sum(p: AB, w: Wide) -> bool
+    ensures { λ b. ⌜ b ≡ hasCornerSum p (record { x = w .x; y = w .y; z = w .z }) ⌝ }
 {
     if !is_narrow(w) {
         return false;
@@ -134,11 +134,11 @@ impl AB {
             return TripleAnswer::Refused(Refusal::Pair);
         }
         let even = candidate(0, self);
-        if has(self, even) {
+        if has_corner_sum(self, even) {
             return TripleAnswer::At(narrowed(even));
         }
         let odd = candidate(1, self);
-        if has(self, odd) {
+        if has_corner_sum(self, odd) {
             return TripleAnswer::At(narrowed(odd));
         }
         TripleAnswer::Refused(Refusal::Pair)

@@ -3,7 +3,7 @@ ghost use mathlib.Core.Path.{_≡_};
 ghost use mathlib.Core.List.{[], _∷_};
 ghost use Rattle.turtle.specs.Walk.{stepOf, cornersOf, stepBy, letter, turtle, cell, corners, corner as cornerOf, turnedFlavor};
 ghost use Rattle.turtle.specs.Plane.{_⊕_, rot, rots};
-ghost use Rattle.turtle.specs.Sizes.{Near, Roomy, Short, SmallStroke};
+ghost use Rattle.turtle.specs.Inside.Sizes.{Near, Roomy, Short, SmallStroke};
 use crate::AB;
 use crate::letter::Flavor;
 use crate::letter::Letter;
@@ -16,7 +16,7 @@ pub struct Turtle {
 }
 
 // A drawn cell: its corner sum and flavor.
-pub struct Cell {
+pub struct DrawnCell {
     pub sum: AB,
     pub flavor: Flavor,
 }
@@ -29,7 +29,7 @@ pub struct Corners {
 
 // `Lost`: the turtle is beyond `AB::LIMIT`, far from every cell that is in bounds.
 pub enum Stepped {
-    Drew(Cell, Turtle),
+    Drew(DrawnCell, Turtle),
     Turned(Turtle),
     NoDraw,
     Lost,
@@ -95,7 +95,7 @@ fn drew(s: Stroke, at: AB, heading: u8) -> Stepped
     Stepped::Drew(cell, Turtle { at: next, heading })
 }
 
-fn cell_of(s: Stroke, at: AB, heading: u8) -> Cell
+fn cell_of(s: Stroke, at: AB, heading: u8) -> DrawnCell
     requires { ⌜ SmallStroke s × Near at ⌝ }
     ensures { λ r. ⌜ r ≡ cell s (turtle at heading) ⌝ }
 {
@@ -103,7 +103,7 @@ fn cell_of(s: Stroke, at: AB, heading: u8) -> Cell
     let sum = add(add(c.p, c.q), c.r);
     let base = s.flavor;
     let flavor = turned(base, heading);
-    Cell { sum, flavor }
+    DrawnCell { sum, flavor }
 }
 
 fn corners_of(s: Stroke, at: AB, heading: u8) -> Corners

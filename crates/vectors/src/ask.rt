@@ -1,30 +1,32 @@
 // One function for each letter: the words of its line read, the operation called, its answer printed.
 ghost use Prim.Native.Nat.{_≤_};
 ghost use lib.ListN.{length};
-use crate::text::SignedWord;
-use crate::text::put_integer;
-use crate::text::put_natural;
-use crate::text::put_next_float;
-use crate::text::put_next_integer;
-use crate::text::put_next_natural;
-use crate::text::refused;
-use crate::text::signed;
-use crate::text::unread;
+use crate::print::length_of;
+use crate::print::refused;
+use crate::print::unread;
 use code::ReadAnswer;
+use code::Reading;
 use code::WriteAnswer;
 use nodes::ChildAnswer;
 use nodes::ChildStep;
 use nodes::Node;
-use query::line::count;
-use query::line::word;
-use query::number::ByteWord;
-use query::number::FloatWord;
-use query::number::IntegerWord;
-use query::number::NaturalWord;
-use query::number::byte;
-use query::number::float;
-use query::number::integer;
-use query::number::natural;
+use text::number::ByteWord;
+use text::number::FloatWord;
+use text::number::IntegerWord;
+use text::number::NaturalWord;
+use text::number::WideWord;
+use text::number::byte;
+use text::number::float;
+use text::number::integer;
+use text::number::natural;
+use text::number::wide_integer;
+use text::put::put_integer;
+use text::put::put_natural;
+use text::put::put_next_float;
+use text::put::put_next_integer;
+use text::put::put_next_natural;
+use text::words::count;
+use text::words::word;
 use triple::Triple;
 use turtle::AB;
 use turtle::corner::CornerAnswer;
@@ -54,29 +56,31 @@ fn put_pair(out: &mut [u8], p: AB) -> usize
 {
     let a = p.a;
     let b = p.b;
-    let e = put_integer(out, 0, a);
-    put_next_integer(out, e, b)
+    let after_a = put_integer(out, 0, a);
+    let end = put_next_integer(out, after_a, b);
+    length_of(out.len(), end)
 }
 
 pub(crate) fn triple(line: &[u8], out: &mut [u8]) -> usize
     ensures { λ n. ⌜ n ≤ length (now (out .entry)) ⌝ }
 {
-    let SignedWord::Signed(a) = signed(word(line, 1)) else {
+    let WideWord::Wide(a) = wide_integer(word(line, 1)) else {
         return unread(out);
     };
-    let SignedWord::Signed(b) = signed(word(line, 2)) else {
+    let WideWord::Wide(b) = wide_integer(word(line, 2)) else {
         return unread(out);
     };
     let answer = AB::new(a, b).to_triple();
     match answer {
-        TripleAnswer::At(t) => put_triple(out, t),
+        TripleAnswer::At(t) => {
+            let end = put_triple(out, t);
+            length_of(out.len(), end)
+        }
         TripleAnswer::Refused(e) => refused(out, e),
     }
 }
 
-fn put_triple(out: &mut [u8], t: Triple) -> usize
-    ensures { λ n. ⌜ n ≤ length (now (out .entry)) ⌝ }
-{
+fn put_triple(out: &mut [u8], t: Triple) -> usize {
     let x = t.x as i64;
     let y = t.y as i64;
     let z = t.z as i64;
@@ -106,15 +110,16 @@ fn code_of(o: u8, r: u8, s: u64, out: &mut [u8]) -> usize
     let mut bytes = [0u8; 9];
     let answer = code::write(o, r, s, &mut bytes);
     match answer {
-        WriteAnswer::Written(n) => put_bytes(out, &bytes, n),
+        WriteAnswer::Written(n) => {
+            let end = put_bytes(out, &bytes, n);
+            length_of(out.len(), end)
+        }
         WriteAnswer::Refused(e) => refused(out, e),
     }
 }
 
 // The first n of some bytes.
-fn put_bytes(out: &mut [u8], bytes: &[u8], n: usize) -> usize
-    ensures { λ n. ⌜ n ≤ length (now (out .entry)) ⌝ }
-{
+fn put_bytes(out: &mut [u8], bytes: &[u8], n: usize) -> usize {
     let mut e: usize = 0;
     let mut i: usize = 0;
     while i < bytes.len() {
@@ -128,10 +133,7 @@ fn put_bytes(out: &mut [u8], bytes: &[u8], n: usize) -> usize
 }
 
 // Byte i, after a space but for the first.
-fn put_byte(out: &mut [u8], at: usize, i: usize, b: u8) -> usize
-    requires { ⌜ at ≤ length (now out) ⌝ }
-    ensures { λ e. ⌜ e ≤ length (now (out .entry)) ⌝ }
-{
+fn put_byte(out: &mut [u8], at: usize, i: usize, b: u8) -> usize {
     if i == 0 {
         return put_natural(out, at, b as u64);
     }
@@ -145,14 +147,19 @@ pub(crate) fn reading(line: &[u8], out: &mut [u8]) -> usize
     let n = take_bytes(line, &mut bytes);
     let answer = code::read(&bytes[..n]);
     match answer {
-        ReadAnswer::Read(r) => {
-            let after_o = put_natural(out, 0, r.orientation as u64);
-            let after_r = put_next_natural(out, after_o, r.resolution as u64);
-            let after_s = put_next_natural(out, after_r, r.s);
-            put_next_natural(out, after_s, r.used as u64)
-        }
+        ReadAnswer::Read(r) => put_reading(out, r),
         ReadAnswer::Refused(e) => refused(out, e),
     }
+}
+
+fn put_reading(out: &mut [u8], r: Reading) -> usize
+    ensures { λ n. ⌜ n ≤ length (now (out .entry)) ⌝ }
+{
+    let after_o = put_natural(out, 0, r.orientation as u64);
+    let after_r = put_next_natural(out, after_o, r.resolution as u64);
+    let after_s = put_next_natural(out, after_r, r.s);
+    let end = put_next_natural(out, after_s, r.used as u64);
+    length_of(out.len(), end)
 }
 
 // The bytes that the line's words after the first write, up to one that is none; answers how many.
@@ -231,5 +238,6 @@ fn put_step(out: &mut [u8], c: ChildStep) -> usize
     let after_motif = put_next_natural(out, after_cell, node.motif);
     let after_flip = put_next_natural(out, after_motif, node.flip as u64);
     let after_a = put_next_float(out, after_flip, node.pos_a);
-    put_next_float(out, after_a, node.pos_b)
+    let end = put_next_float(out, after_a, node.pos_b);
+    length_of(out.len(), end)
 }

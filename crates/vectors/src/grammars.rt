@@ -1,24 +1,25 @@
 // Grammars and their tables. A text is one word of the line, with `_` for a space and `/` for LF.
 ghost use Prim.Native.Nat.{_≤_};
 ghost use lib.ListN.{length};
-use crate::text::put_integer;
-use crate::text::put_natural;
-use crate::text::put_next_integer;
-use crate::text::put_next_natural;
-use crate::text::refused;
-use crate::text::unread;
+use crate::print::length_of;
+use crate::print::refused;
+use crate::print::unread;
 use descent::DescentAnswer;
 use descent::TableCell;
-use query::line::count;
-use query::line::word;
-use query::number::ByteWord;
-use query::number::IntegerWord;
-use query::number::NaturalWord;
-use query::number::byte;
-use query::number::integer;
-use query::number::natural;
 use tables::compiler::CompileAnswer;
 use tables::compiler::compile_grammar;
+use text::number::ByteWord;
+use text::number::IntegerWord;
+use text::number::NaturalWord;
+use text::number::byte;
+use text::number::integer;
+use text::number::natural;
+use text::put::put_integer;
+use text::put::put_natural;
+use text::put::put_next_integer;
+use text::put::put_next_natural;
+use text::words::count;
+use text::words::word;
 use triple::refusal::Refusal;
 
 fn letter_of(b: u8) -> u8 {
@@ -55,7 +56,8 @@ fn fault(out: &mut [u8], e: Refusal, line: usize) -> usize
     ensures { λ n. ⌜ n ≤ length (now (out .entry)) ⌝ }
 {
     let at = refused(out, e);
-    put_next_natural(out, at, line as u64)
+    let end = put_next_natural(out, at, line as u64);
+    length_of(out.len(), end)
 }
 
 // The number of states of a grammar, and the numbers of one of them.
@@ -83,14 +85,11 @@ fn put_state(out: &mut [u8], states: usize, table: &[i32], k: usize) -> usize
         e = put_entry(out, e, table, k, j);
         j += 1;
     }
-    e
+    length_of(out.len(), e)
 }
 
 // Number j of state k; nothing where the table has none.
-fn put_entry(out: &mut [u8], at: usize, table: &[i32], k: usize, j: usize) -> usize
-    requires { ⌜ at ≤ length (now out) ⌝ }
-    ensures { λ e. ⌜ e ≤ length (now (out .entry)) ⌝ }
-{
+fn put_entry(out: &mut [u8], at: usize, table: &[i32], k: usize, j: usize) -> usize {
     if k >= 32 {
         return at;
     }
@@ -188,5 +187,6 @@ fn put_cell(out: &mut [u8], c: TableCell) -> usize
     let b = p.b;
     let after_a = put_integer(out, 0, a);
     let after_b = put_next_integer(out, after_a, b);
-    put_next_natural(out, after_b, c.flavor as u64)
+    let end = put_next_natural(out, after_b, c.flavor as u64);
+    length_of(out.len(), end)
 }

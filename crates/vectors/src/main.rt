@@ -18,11 +18,11 @@
 ghost use Prim.Native.Nat.{_+_, _≤_};
 ghost use lib.ListN.{length};
 use lines::Exchange;
-use query::line::word;
+use text::words::word;
 
 mod ask;
 mod grammars;
-mod text;
+mod print;
 
 // The answer to a line, which asks for what its letter says.
 fn answer(line: &[u8], out: &mut [u8]) -> usize
@@ -30,7 +30,7 @@ fn answer(line: &[u8], out: &mut [u8]) -> usize
 {
     let head = word(line, 0);
     if head.len() != 1 {
-        return text::unread(out);
+        return print::unread(out);
     }
     let letter = head[0];
     match letter {
@@ -41,7 +41,7 @@ fn answer(line: &[u8], out: &mut [u8]) -> usize
         b'N' => ask::child(line, out),
         b'G' => grammars::state(line, out),
         b'D' => grammars::descent(line, out),
-        _ => text::unread(out),
+        _ => print::unread(out),
     }
 }
 

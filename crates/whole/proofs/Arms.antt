@@ -1,5 +1,4 @@
 -- A number that no arm of a match has, of arms 0, 1, .. below n, is n or above.
--- Assumes nothing.
 use mathlib.Core.Path.{_≡_}
 use Prim.Native.Nat.{ℕ, zero, suc, _≤_}
 use native.Mathlib.Omega.{arith}

@@ -1,7 +1,6 @@
 -- Flags: what two of them say together, and the flag that a call returns from what it is to say.
--- Assumes nothing.
 use mathlib.Core.Path.{_≡_, refl, sym, subst}
-use mathlib.Core.Bool.{Bool, true, false, not, _&&_}
+use mathlib.Core.Bool.{Bool, true, false, _&&_}
 use lib.Dec.{T}
 
 pub both-left : (a b : Bool) → T (a && b) → T a

@@ -1,34 +1,15 @@
 -- Facts about a table that antt computes: a list of claims at every place of the table is one test, proved by `tt`, and the test gives each claim at each place.
--- Assumes nothing.
-use mathlib.Core.Path.{_≡_, ap, subst}
+use mathlib.Core.Path.{_≡_, subst}
 use mathlib.Core.Bool.{Bool, true, false, _&&_}
 use mathlib.Core.List.{List, [], _∷_}
 use Prim.Native.Nat.{ℕ, zero, suc, _<_, _≤_}
 use native.Mathlib.Omega.{arith}
 use native.Mathlib.Decide.{decLt}
 use lib.Dec.{T, ltb, leb, eqb, eqb→eq, eqb-refl, ltb→lt, leb→le, lt→ltb, le→leb}
-use lib.IntN.{ℤ, pos, negsuc}
+use lib.IntN.{ℤ}
+use Rattle.whole.specs.Tests.{equal}
 use Rattle.whole.proofs.Bools.{both-left, both-right, both}
-
--- ---- two whole numbers are the same
-abbrev pub eqZ : ℤ → ℤ → Bool
-eqZ (pos a) (pos b) = eqb a b
-eqZ (pos a) (negsuc b) = false
-eqZ (negsuc a) (pos b) = false
-eqZ (negsuc a) (negsuc b) = eqb a b
-
-pub eqZ→eq : (x y : ℤ) → T (eqZ x y) → x ≡ y
-eqZ→eq (pos a) (pos b) t = ap pos (eqb→eq a b t)
-eqZ→eq (pos a) (negsuc b) t = absurd t
-eqZ→eq (negsuc a) (pos b) t = absurd t
-eqZ→eq (negsuc a) (negsuc b) t = ap negsuc (eqb→eq a b t)
-
-eqZ-refl : (x : ℤ) → T (eqZ x x)
-eqZ-refl (pos a) = eqb-refl a
-eqZ-refl (negsuc a) = eqb-refl a
-
-pub eq→eqZ : (x y : ℤ) → x ≡ y → T (eqZ x y)
-eq→eqZ x y e = subst (λ z. T (eqZ x z)) e (eqZ-refl x)
+use Rattle.whole.proofs.Equals.{equal-sound, is-equal}
 
 -- ---- a claim, the test that decides it, and what it says
 pub data Claim : Type 0 where
@@ -40,7 +21,7 @@ abbrev pub test : Claim → Bool
 test (lt a b) = ltb a b
 test (le a b) = leb a b
 test (eq a b) = eqb a b
-test (int a b) = eqZ a b
+test (int a b) = equal a b
 test (that b) = b
 
 abbrev pub Says : Claim → Type 0
@@ -54,14 +35,14 @@ says : (c : Claim) → T (test c) → Says c
 says (lt a b) t = ltb→lt a b t
 says (le a b) t = leb→le a b t
 says (eq a b) t = eqb→eq a b t
-says (int a b) t = eqZ→eq a b t
+says (int a b) t = equal-sound a b t
 says (that b) t = t
 
 tested : (c : Claim) → Says c → T (test c)
 tested (lt a b) h = lt→ltb a b h
 tested (le a b) h = le→leb a b h
 tested (eq a b) h = subst (λ c. T (eqb a c)) h (eqb-refl a)
-tested (int a b) h = eq→eqZ a b h
+tested (int a b) h = is-equal a b h
 tested (that b) h = h
 
 -- ---- a list of claims

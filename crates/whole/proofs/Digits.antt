@@ -1,5 +1,4 @@
 -- The digits of a number to the base 4, and powers of 2 and 4: by the laws of division at a power.
--- Assumes nothing.
 use mathlib.Core.Path.{_≡_, sym, ap, _∙_}
 use Prim.Native.Nat.{ℕ, suc, _+_, _*_, _/_, _%_, _^_, _<_, _≤_}
 use native.Mathlib.Omega.{arith}

@@ -1,5 +1,4 @@
 -- Floats of size at most 2 ^ k, by two comparisons, and the whole numbers that they are cut to; whole numbers as floats, of which casts lose nothing.
--- Assumes nothing.
 use mathlib.Core.Path.{_≡_, refl, sym, ap, _∙_}
 use mathlib.Core.Bool.{Bool, true, false, not, _&&_, _||_, cond, and-true}
 use Prim.Native.Nat.{ℕ, zero, suc, _+_, _-_, _*_, _/_, _^_, _≤_, _<_, min}

@@ -1,5 +1,4 @@
 -- Equal fractions a / c and b / d have the same whole part, rounded down and rounded up.
--- Assumes nothing.
 use mathlib.Core.Path.{_≡_, sym, ap, _∙_}
 use Prim.Native.Nat.{ℕ, _+_, _-_, _*_, _/_, _<_, _≤_}
 use native.Mathlib.Omega.{arith}

@@ -1,17 +1,14 @@
 -- Every integer z is up z - dn z, of two natural numbers. With that, a linear statement on integers is one on natural numbers, which `omega` proves.
--- Assumes nothing.
-use mathlib.Core.Path.{_≡_, refl, sym, ap, _∙_, subst}
+use mathlib.Core.Path.{_≡_, refl, sym, ap, _∙_}
 use mathlib.Core.Logic.{_⊎_, inl, inr}
 use mathlib.Core.Bool.{Bool, true, false, not, cond}
-use Prim.Native.Nat.{ℕ, zero, suc, _+_, _*_, _-_, _<_, _≤_, _^_, _/_, _%_}
+use Prim.Native.Nat.{ℕ, zero, suc, _+_, _*_, _-_, _<_, _≤_, _/_, _%_}
 use native.Mathlib.Omega.{arith}
-use native.Mathlib.Nat.{mul-zero, mul-suc, mul-comm, zero-div, zero-mod, zero-add, div-eq-of-lt, add-div-right}
+use native.Mathlib.Nat.{mul-zero, zero-div, zero-mod, zero-add, div-eq-of-lt, add-div-right}
 use native.Mathlib.Numerals.{add-one}
-use lib.Dec.{T, ltb, leb, ltb→lt, nltb→le, nleb→lt, leb→le, le→leb, lt→ltb}
-use lib.IntN.{ℤ, pos, negsuc, negℤ, subℕ, _+ℤ_, _-ℤ_, _*ℤ_, natAbs, negℤ-negℤ}
+use lib.Dec.{T, ltb, ltb→lt, nleb→lt, leb→le, le→leb, lt→ltb}
+use lib.IntN.{ℤ, pos, negsuc, negℤ, subℕ, _+ℤ_, _*ℤ_, natAbs, negℤ-negℤ}
 use lib.Signed.{leZ, ltZ, _≤ℤ_, _<ℤ_, mag, quotZ, remZ, shrZ}
-use mir.Syntax.{Width}
-use mir.Val.{SFits, hbits}
 use borrow.Author.Tests.{ltb-true, ltb-false}
 
 -- the part above 0, and the part below

@@ -1,5 +1,4 @@
 -- Powers of four by powers of two.
--- Assumes nothing.
 use mathlib.Core.Path.{_≡_, refl}
 use Prim.Native.Nat.{ℕ, zero, suc, _*_, _^_}
 use native.Mathlib.Nat.{pow-suc, mul-suc}

@@ -1,5 +1,5 @@
 -- The laws of the product that `lib.IntN` lacks, by the parts of a product, and a set for `simp` that brings two expressions with products of variables to one form.
--- What is linear is proved by `View`, with no law named. Assumes nothing.
+-- What is linear is proved by `View`, with no law named.
 use mathlib.Core.Path.{_≡_, sym, ap, _∙_}
 use Prim.Native.Nat.{ℕ, suc, _+_, _*_}
 use native.Mathlib.Omega.{arith}

@@ -2,15 +2,14 @@
 -- `View z` has z as p - n, and says that z is at most top and at least - bot, provided that `ok` is true. A number that is read back from its bits, `toZ w (ofZ w z)`,
 -- is z where z fits: its view is that of z, and `ok` has the test that the bounds are those of the width. So a whole tower of operations has a view that `search view` finds
 -- by the operations' names, and whether each step fits is one test that computes: `tt`.
--- Assumes nothing.
 use mathlib.Core.Path.{_≡_, refl, sym, ap, _∙_, subst}
-use mathlib.Core.Bool.{Bool, true, false, not, cond, _&&_}
+use mathlib.Core.Bool.{Bool, true, false, not, _&&_}
 use Prim.Native.Nat.{ℕ, zero, suc, _+_, _*_, _-_, _<_, _≤_, _^_, _/_, _%_, max}
 use native.Mathlib.Omega.{arith}
 use native.Mathlib.Nat.{mul-le-mul-left, mul-le-mul, le-trans, le-div-iff-mul-le, div-mul-le-self, div-zero, mod-le}
 use lib.Dec.{T, ltb, leb, eqb, ltb→lt, leb→le}
 use borrow.Author.Tests.{eqb-true, eqb-false, not-true, not-false}
-use lib.IntN.{ℤ, pos, negsuc, negℤ, subℕ, _+ℤ_, _-ℤ_, _*ℤ_, *ℤ-comm, natAbs}
+use lib.IntN.{ℤ, pos, negsuc, negℤ, _+ℤ_, _*ℤ_, *ℤ-comm, natAbs}
 use lib.Signed.{leZ, ltZ, _≤ℤ_, _<ℤ_, mag, quotZ, remZ, shrZ, nonNeg, leZ-yes, ltZ-yes, ltZ-no}
 use mir.Syntax.{Width, w32, w64}
 use mir.Val.{SFits, Fits, bits, hbits, toZ, ofZ}

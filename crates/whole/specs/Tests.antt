@@ -1,5 +1,5 @@
 -- Several comparisons of whole numbers, as one test that computes.
-use mathlib.Core.Bool.{Bool, true, false, _&&_}
+use mathlib.Core.Bool.{Bool, true, _&&_}
 use mathlib.Core.List.{List, [], _∷_}
 use lib.IntN.{ℤ}
 use lib.Signed.{leZ}
@@ -12,3 +12,7 @@ pub data Test : Type 0 where
 abbrev pub pass : List Test → Bool
 pass [] = true
 pass ((a ≤? b) ∷ l) = leZ a b && pass l
+
+-- whether two whole numbers are the same
+abbrev pub equal : ℤ → ℤ → Bool
+equal x y = leZ x y && leZ y x

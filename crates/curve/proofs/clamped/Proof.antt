@@ -4,11 +4,9 @@ use Rattle.curve.proofs.PointLaws.{clamping}
 use Rattle.curve.proofs.clamped.Statement.{statement}
 use Rattle.curve.proofs.clamped.Tie as tie
 
-returns : tie.Need-returns
-returns c = search (needs, clamping)
-
-returns-2 : tie.Need-returns-2
-returns-2 c = search (needs, clamping)
-
 pub clamped-spec : {M : Type 1} → statement M
-clamped-spec = tie.close (tie.spec returns returns-2)
+clamped-spec =
+    tie.close
+    (tie.spec
+    (λ c. search (needs, clamping))
+    (λ c. search (needs, clamping)))

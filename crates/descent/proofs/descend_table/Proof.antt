@@ -2,7 +2,7 @@
 use borrow.Author.Needs.{needs}
 use mathlib.Core.Path.{_∙_}
 use native.Mathlib.Omega.{arith}
-use Rattle.descent.proofs.SpotLaws.{token-below, token-known, passes-none, passes-many, table-bad, place-past, place-drawn, follow-digit}
+use Rattle.descent.proofs.LevelStateLaws.{token-below, token-known, passes-none, passes-many, table-bad, place-past, place-drawn, follow-digit}
 use Rattle.descent.proofs.descend_table.Statement.{statement}
 use Rattle.descent.proofs.descend_table.Tie as tie
 

@@ -1,5 +1,5 @@
 -- `edges::line_through` fits at each step, since a corner is within 768.
-use Rattle.classifier.proofs.LineLaws.{x-fits, d-fits, y-fits, f-fits, s-fits, b-fits, c-fits, x-narrow, y-narrow, c-narrow, line-is}
+use Rattle.classifier.proofs.LineValueLaws.{x-fits, d-fits, y-fits, f-fits, s-fits, b-fits, c-fits, x-narrow, y-narrow, c-narrow, line-is}
 use Rattle.classifier.proofs.edges.line_through.Statement.{statement}
 use Rattle.classifier.proofs.edges.line_through.Tie as tie
 

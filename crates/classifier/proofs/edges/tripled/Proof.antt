@@ -1,7 +1,7 @@
 -- `edges::tripled` is linear, and within 768, as both are of eight bits.
 use native.Mathlib.Omega.{arith}
 use Rattle.whole.proofs.View.{fits, eq-by}
-use Rattle.classifier.proofs.ReadLaws.{seen8, within-by}
+use Rattle.classifier.proofs.ComparisonLaws.{seen8, within-by}
 use Rattle.classifier.proofs.edges.tripled.Statement.{statement}
 use Rattle.classifier.proofs.edges.tripled.Tie as tie
 

@@ -1,6 +1,6 @@
 -- `edges::value` fits at each step: a line is of 32 bits, and a corner within 768.
 use borrow.Author.Needs.{needs}
-use Rattle.classifier.proofs.LineLaws.{along-fits, across-fits, steps-fits, value-fits, value-is}
+use Rattle.classifier.proofs.LineValueLaws.{along-fits, across-fits, steps-fits, value-fits, value-is}
 use Rattle.whole.proofs.View.{seen, fits}
 use Rattle.classifier.proofs.edges.value.Statement.{statement}
 use Rattle.classifier.proofs.edges.value.Tie as tie

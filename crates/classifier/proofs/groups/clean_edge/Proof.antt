@@ -3,13 +3,13 @@ use Prim.Native.Nat.{_-_}
 use native.Mathlib.Omega.{arith}
 use borrow.Author.Needs.{needs}
 use Rattle.classifier.proofs.EdgeLaws.{Sought, seek-start, seek-end, seek-found, seek-next}
-use Rattle.classifier.specs.Sets.{members}
-use Rattle.classifier.specs.Parts.{cornersOf}
+use Rattle.classifier.specs.Inside.Sets.{members}
+use Rattle.classifier.specs.Shapes.{placedCorners}
 use Rattle.classifier.proofs.groups.clean_edge.Statement.{statement}
 use Rattle.classifier.proofs.groups.clean_edge.Tie as tie
 
 abbrev Inv-loop : tie.InvT-loop
-Inv-loop g children group n i₀ i = Sought (members children group) (cornersOf g) i
+Inv-loop g children group n i₀ i = Sought (members children group) (placedCorners g) i
 
 abbrev μ-loop : tie.MeasureT-loop
 μ-loop g children group n i₀ i = n - i

@@ -2,7 +2,7 @@
 use mathlib.Core.Path.{sym, ap, _∙_}
 use Prim.Native.Nat.{_-_}
 use borrow.Author.Needs.{needs}
-use Rattle.classifier.specs.Sets.{members, foundLine}
+use Rattle.classifier.specs.Inside.Sets.{members, foundLine}
 use Rattle.classifier.proofs.EdgeLaws.{seen, look-found, look-next}
 use Rattle.classifier.proofs.SetLaws.{Passed, pass-start, pass-end}
 use Rattle.classifier.proofs.groups.first_clean.Statement.{statement}

@@ -2,7 +2,7 @@
 use mathlib.Core.Path.{_∙_, ap}
 use borrow.Author.Needs.{needs}
 use Rattle.classifier.proofs.SetLaws.{out-of, one-of, on-side}
-use Rattle.classifier.specs.Sets.{onSide}
+use Rattle.classifier.specs.Inside.Sets.{onSide}
 use Rattle.classifier.proofs.groups.stays.Statement.{statement}
 use Rattle.classifier.proofs.groups.stays.Tie as tie
 

@@ -3,7 +3,7 @@ use native.Mathlib.Omega.{arith}
 use lib.ListN.{length}
 use borrow.Author.Needs.{needs}
 use Rattle.classifier.proofs.GatherLaws.{kept-count, index-most, two-of, line-of, nothing-of, led-none, led-stuck, led-only, led-less, led-split}
-use Rattle.classifier.specs.Sets.{members, linesOf}
+use Rattle.classifier.specs.Inside.Sets.{members, gatheredLines}
 use Prim.Native.Nat.{ℕ, _<_}
 use borrow.Fn.Kinds.{In}
 use borrow.Fn.PlainCycle.{Measures, is, falls, and}
@@ -14,7 +14,7 @@ use Rattle.classifier.proofs.splits.bit.Reads as bit-reads
 use Rattle.classifier.proofs.groups.first_clean.Reads as first-clean-reads
 use Rattle.classifier.proofs.groups.first_digit.Reads as first-digit-reads
 use Rattle.classifier.proofs.splits.index_of.Reads as index-of-reads
-use Rattle.classifier.proofs.groups.side.Reads as side-reads
+use Rattle.classifier.proofs.groups.group_on.Reads as group-on-reads
 use Rattle.classifier.proofs.groups.size.Reads as size-reads
 use Rattle.classifier.proofs.splits.+choose.{statement}
 use Rattle.classifier.proofs.splits.+choose.Tie.{close}
@@ -39,8 +39,8 @@ choose-size-requires : (t : ℕ) → choose-lts.Need-size-requires (
   index-of-reads.Learnt,
   bit-reads.Asked,
   bit-reads.Learnt,
-  side-reads.Asked,
-  side-reads.Learnt,
+  group-on-reads.Asked,
+  group-on-reads.Learnt,
   choose-below t,
   choose.Post,
 ) (choose-at t) choose.Post
@@ -57,8 +57,8 @@ choose-returns : (t : ℕ) → choose-lts.Need-returns (
   index-of-reads.Learnt,
   bit-reads.Asked,
   bit-reads.Learnt,
-  side-reads.Asked,
-  side-reads.Learnt,
+  group-on-reads.Asked,
+  group-on-reads.Learnt,
   choose-below t,
   choose.Post,
 ) (choose-at t) choose.Post
@@ -75,8 +75,8 @@ choose-first-digit-requires : (t : ℕ) → choose-lts.Need-first-digit-requires
   index-of-reads.Learnt,
   bit-reads.Asked,
   bit-reads.Learnt,
-  side-reads.Asked,
-  side-reads.Learnt,
+  group-on-reads.Asked,
+  group-on-reads.Learnt,
   choose-below t,
   choose.Post,
 ) (choose-at t) choose.Post
@@ -93,8 +93,8 @@ choose-returns-2 : (t : ℕ) → choose-lts.Need-returns-2 (
   index-of-reads.Learnt,
   bit-reads.Asked,
   bit-reads.Learnt,
-  side-reads.Asked,
-  side-reads.Learnt,
+  group-on-reads.Asked,
+  group-on-reads.Learnt,
   choose-below t,
   choose.Post,
 ) (choose-at t) choose.Post
@@ -111,8 +111,8 @@ choose-first-clean-requires : (t : ℕ) → choose-lts.Need-first-clean-requires
   index-of-reads.Learnt,
   bit-reads.Asked,
   bit-reads.Learnt,
-  side-reads.Asked,
-  side-reads.Learnt,
+  group-on-reads.Asked,
+  group-on-reads.Learnt,
   choose-below t,
   choose.Post,
 ) (choose-at t) choose.Post
@@ -129,8 +129,8 @@ choose-enum-known-s : (t : ℕ) → choose-lts.Need-enum-known-s (
   index-of-reads.Learnt,
   bit-reads.Asked,
   bit-reads.Learnt,
-  side-reads.Asked,
-  side-reads.Learnt,
+  group-on-reads.Asked,
+  group-on-reads.Learnt,
   choose-below t,
   choose.Post,
 ) (choose-at t) choose.Post
@@ -147,8 +147,8 @@ choose-enum-told : (t : ℕ) → choose-lts.Need-enum-told (
   index-of-reads.Learnt,
   bit-reads.Asked,
   bit-reads.Learnt,
-  side-reads.Asked,
-  side-reads.Learnt,
+  group-on-reads.Asked,
+  group-on-reads.Learnt,
   choose-below t,
   choose.Post,
 ) (choose-at t) choose.Post
@@ -165,8 +165,8 @@ choose-returns-3 : (t : ℕ) → choose-lts.Need-returns-3 (
   index-of-reads.Learnt,
   bit-reads.Asked,
   bit-reads.Learnt,
-  side-reads.Asked,
-  side-reads.Learnt,
+  group-on-reads.Asked,
+  group-on-reads.Learnt,
   choose-below t,
   choose.Post,
 ) (choose-at t) choose.Post
@@ -183,8 +183,8 @@ choose-index-of-requires : (t : ℕ) → choose-lts.Need-index-of-requires (
   index-of-reads.Learnt,
   bit-reads.Asked,
   bit-reads.Learnt,
-  side-reads.Asked,
-  side-reads.Learnt,
+  group-on-reads.Asked,
+  group-on-reads.Learnt,
   choose-below t,
   choose.Post,
 ) (choose-at t) choose.Post
@@ -201,14 +201,14 @@ choose-bit-requires : (t : ℕ) → choose-lts.Need-bit-requires (
   index-of-reads.Learnt,
   bit-reads.Asked,
   bit-reads.Learnt,
-  side-reads.Asked,
-  side-reads.Learnt,
+  group-on-reads.Asked,
+  group-on-reads.Learnt,
   choose-below t,
   choose.Post,
 ) (choose-at t) choose.Post
-choose-bit-requires t c κs = let k = c .before .before .before .before .before .before .before .before .pre .1 in omega (arith, c .index-of .ensures, k .few, kept-count k, index-most (linesOf (c .before .before .before .before .before .before .before .before .args .found)) (c .before .before .s .given .0 .0))
+choose-bit-requires t c κs = let k = c .before .before .before .before .before .before .before .before .pre .1 in omega (arith, c .index-of .ensures, k .few, kept-count k, index-most (gatheredLines (c .before .before .before .before .before .before .before .before .args .found)) (c .before .before .s .given .0 .0))
 
-choose-side-requires : (t : ℕ) → choose-lts.Need-side-requires (
+choose-group-on-requires : (t : ℕ) → choose-lts.Need-group-on-requires (
   size-reads.Asked,
   size-reads.Learnt,
   first-digit-reads.Asked,
@@ -219,12 +219,12 @@ choose-side-requires : (t : ℕ) → choose-lts.Need-side-requires (
   index-of-reads.Learnt,
   bit-reads.Asked,
   bit-reads.Learnt,
-  side-reads.Asked,
-  side-reads.Learnt,
+  group-on-reads.Asked,
+  group-on-reads.Learnt,
   choose-below t,
   choose.Post,
 ) (choose-at t) choose.Post
-choose-side-requires t c κs = search needs
+choose-group-on-requires t c κs = search needs
 
 choose-choose-requires : (t : ℕ) → choose-lts.Need-choose-requires (
   size-reads.Asked,
@@ -237,14 +237,14 @@ choose-choose-requires : (t : ℕ) → choose-lts.Need-choose-requires (
   index-of-reads.Learnt,
   bit-reads.Asked,
   bit-reads.Learnt,
-  side-reads.Asked,
-  side-reads.Learnt,
+  group-on-reads.Asked,
+  group-on-reads.Learnt,
   choose-below t,
   choose.Post,
 ) (choose-at t) choose.Post
 choose-choose-requires t c κs =
     let gs = (members (c .before .before .before .before .before .before .before .before .before .before .args .children) (c .before .before .before .before .before .before .before .before .before .before .args .group)) in
-    let less = led-less gs (linesOf (c .before .before .before .before .before .before .before .before .before .before .args .found)) (c .before .before .before .before .before .before .before .before .before .before .args .pattern) (two-of (members (c .before .before .before .before .before .before .before .before .before .before .args .children) (c .before .before .before .before .before .before .before .before .before .before .args .group)) (c .before .before .before .before .before .before .before .before .before .size .ensures _) (c .before .before .before .before .before .before .before .before .if1 .left) (c .before .before .before .before .before .before .before .if2 .left)) (line-of gs (c .before .before .before .before .before .before .first-clean .ensures) (c .before .before .before .before .s .given .1)) (c .before .before .index-of .ensures) (c .before .bit .ensures) (c .side .ensures) in
+    let less = led-less gs (gatheredLines (c .before .before .before .before .before .before .before .before .before .before .args .found)) (c .before .before .before .before .before .before .before .before .before .before .args .pattern) (two-of (members (c .before .before .before .before .before .before .before .before .before .before .args .children) (c .before .before .before .before .before .before .before .before .before .before .args .group)) (c .before .before .before .before .before .before .before .before .before .size .ensures _) (c .before .before .before .before .before .before .before .before .if1 .left) (c .before .before .before .before .before .before .before .if2 .left)) (line-of gs (c .before .before .before .before .before .before .first-clean .ensures) (c .before .before .before .before .s .given .1)) (c .before .before .index-of .ensures) (c .before .bit .ensures) (c .group-on .ensures) in
     (omega (arith, c .before .before .before .before .before .before .before .before .before .before .pre .0), c .before .before .before .before .before .before .before .before .before .before .pre .1)
 
 choose-returns-4 : (t : ℕ) → choose-lts.Need-returns-4 (
@@ -258,14 +258,14 @@ choose-returns-4 : (t : ℕ) → choose-lts.Need-returns-4 (
   index-of-reads.Learnt,
   bit-reads.Asked,
   bit-reads.Learnt,
-  side-reads.Asked,
-  side-reads.Learnt,
+  group-on-reads.Asked,
+  group-on-reads.Learnt,
   choose-below t,
   choose.Post,
 ) (choose-at t) choose.Post
 choose-returns-4 t c =
     let gs = (members (c .before .before .before .before .before .before .before .before .before .before .before .args .children) (c .before .before .before .before .before .before .before .before .before .before .before .args .group)) in
-    led-split gs (linesOf (c .before .before .before .before .before .before .before .before .before .before .before .args .found)) (c .before .before .before .before .before .before .before .before .before .before .before .args .pattern) (two-of (members (c .before .before .before .before .before .before .before .before .before .before .before .args .children) (c .before .before .before .before .before .before .before .before .before .before .before .args .group)) (c .before .before .before .before .before .before .before .before .before .before .size .ensures _) (c .before .before .before .before .before .before .before .before .before .if1 .left) (c .before .before .before .before .before .before .before .before .if2 .left)) (line-of gs (c .before .before .before .before .before .before .before .first-clean .ensures) (c .before .before .before .before .before .s .given .1)) (c .before .before .before .index-of .ensures) (c .before .before .bit .ensures) (c .before .side .ensures) (c .choose .ensures)
+    led-split gs (gatheredLines (c .before .before .before .before .before .before .before .before .before .before .before .args .found)) (c .before .before .before .before .before .before .before .before .before .before .before .args .pattern) (two-of (members (c .before .before .before .before .before .before .before .before .before .before .before .args .children) (c .before .before .before .before .before .before .before .before .before .before .before .args .group)) (c .before .before .before .before .before .before .before .before .before .before .size .ensures _) (c .before .before .before .before .before .before .before .before .before .if1 .left) (c .before .before .before .before .before .before .before .before .if2 .left)) (line-of gs (c .before .before .before .before .before .before .before .first-clean .ensures) (c .before .before .before .before .before .s .given .1)) (c .before .before .before .index-of .ensures) (c .before .before .bit .ensures) (c .before .group-on .ensures) (c .choose .ensures)
 
 pub +choose-spec : {M : Type 1} → statement M
 +choose-spec = close μ-choose λ t. choose-lts.spec (
@@ -279,8 +279,8 @@ pub +choose-spec : {M : Type 1} → statement M
   index-of-reads.Learnt,
   bit-reads.Asked,
   bit-reads.Learnt,
-  side-reads.Asked,
-  side-reads.Learnt,
+  group-on-reads.Asked,
+  group-on-reads.Learnt,
   choose-below t,
   choose.Post,
 )
@@ -296,6 +296,6 @@ pub +choose-spec : {M : Type 1} → statement M
     (choose-returns-3 t)
     (choose-index-of-requires t)
     (choose-bit-requires t)
-    (choose-side-requires t)
+    (choose-group-on-requires t)
     (choose-choose-requires t)
     (choose-returns-4 t)

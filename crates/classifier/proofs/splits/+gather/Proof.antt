@@ -2,7 +2,7 @@
 use native.Mathlib.Omega.{arith}
 use lib.ListN.{length}
 use borrow.Author.Needs.{needs}
-use Rattle.classifier.specs.Sets.{members}
+use Rattle.classifier.specs.Inside.Sets.{members}
 use Rattle.classifier.proofs.GatherLaws.{through-none, through-only, through-stuck, Splitting, two-of, line-of, nothing-of, add-room, first-less, first-room, second-less, second-room, through-split}
 use Prim.Native.Nat.{ℕ, _<_}
 use borrow.Fn.Kinds.{In}
@@ -10,10 +10,10 @@ use borrow.Fn.PlainCycle.{Measures, is, falls, and}
 use Rattle.classifier.proofs.splits.gather.Reads as gather
 use Rattle.classifier.proofs.splits.gather.Kinds as gather-kinds
 use Rattle.classifier.proofs.splits.+gather.Lts-gather as gather-lts
-use Rattle.classifier.proofs.splits.added.Reads as added-reads
+use Rattle.classifier.proofs.splits.with_separator.Reads as with-separator-reads
 use Rattle.classifier.proofs.splits.broken.Reads as broken-reads
 use Rattle.classifier.proofs.groups.first_clean.Reads as first-clean-reads
-use Rattle.classifier.proofs.groups.side.Reads as side-reads
+use Rattle.classifier.proofs.groups.group_on.Reads as group-on-reads
 use Rattle.classifier.proofs.groups.size.Reads as size-reads
 use Rattle.classifier.proofs.splits.+gather.{statement}
 use Rattle.classifier.proofs.splits.+gather.Tie.{close}
@@ -34,10 +34,10 @@ gather-size-requires : (t : ℕ) → gather-lts.Need-size-requires (
   broken-reads.Learnt,
   first-clean-reads.Asked,
   first-clean-reads.Learnt,
-  added-reads.Asked,
-  added-reads.Learnt,
-  side-reads.Asked,
-  side-reads.Learnt,
+  with-separator-reads.Asked,
+  with-separator-reads.Learnt,
+  group-on-reads.Asked,
+  group-on-reads.Learnt,
   gather-below t,
   gather.Post,
 ) (gather-at t) gather.Post
@@ -50,10 +50,10 @@ gather-broken-requires : (t : ℕ) → gather-lts.Need-broken-requires (
   broken-reads.Learnt,
   first-clean-reads.Asked,
   first-clean-reads.Learnt,
-  added-reads.Asked,
-  added-reads.Learnt,
-  side-reads.Asked,
-  side-reads.Learnt,
+  with-separator-reads.Asked,
+  with-separator-reads.Learnt,
+  group-on-reads.Asked,
+  group-on-reads.Learnt,
   gather-below t,
   gather.Post,
 ) (gather-at t) gather.Post
@@ -66,10 +66,10 @@ gather-returns : (t : ℕ) → gather-lts.Need-returns (
   broken-reads.Learnt,
   first-clean-reads.Asked,
   first-clean-reads.Learnt,
-  added-reads.Asked,
-  added-reads.Learnt,
-  side-reads.Asked,
-  side-reads.Learnt,
+  with-separator-reads.Asked,
+  with-separator-reads.Learnt,
+  group-on-reads.Asked,
+  group-on-reads.Learnt,
   gather-below t,
   gather.Post,
 ) (gather-at t) gather.Post
@@ -82,10 +82,10 @@ gather-returns-2 : (t : ℕ) → gather-lts.Need-returns-2 (
   broken-reads.Learnt,
   first-clean-reads.Asked,
   first-clean-reads.Learnt,
-  added-reads.Asked,
-  added-reads.Learnt,
-  side-reads.Asked,
-  side-reads.Learnt,
+  with-separator-reads.Asked,
+  with-separator-reads.Learnt,
+  group-on-reads.Asked,
+  group-on-reads.Learnt,
   gather-below t,
   gather.Post,
 ) (gather-at t) gather.Post
@@ -98,10 +98,10 @@ gather-first-clean-requires : (t : ℕ) → gather-lts.Need-first-clean-requires
   broken-reads.Learnt,
   first-clean-reads.Asked,
   first-clean-reads.Learnt,
-  added-reads.Asked,
-  added-reads.Learnt,
-  side-reads.Asked,
-  side-reads.Learnt,
+  with-separator-reads.Asked,
+  with-separator-reads.Learnt,
+  group-on-reads.Asked,
+  group-on-reads.Learnt,
   gather-below t,
   gather.Post,
 ) (gather-at t) gather.Post
@@ -114,10 +114,10 @@ gather-enum-known-s : (t : ℕ) → gather-lts.Need-enum-known-s (
   broken-reads.Learnt,
   first-clean-reads.Asked,
   first-clean-reads.Learnt,
-  added-reads.Asked,
-  added-reads.Learnt,
-  side-reads.Asked,
-  side-reads.Learnt,
+  with-separator-reads.Asked,
+  with-separator-reads.Learnt,
+  group-on-reads.Asked,
+  group-on-reads.Learnt,
   gather-below t,
   gather.Post,
 ) (gather-at t) gather.Post
@@ -130,10 +130,10 @@ gather-enum-told : (t : ℕ) → gather-lts.Need-enum-told (
   broken-reads.Learnt,
   first-clean-reads.Asked,
   first-clean-reads.Learnt,
-  added-reads.Asked,
-  added-reads.Learnt,
-  side-reads.Asked,
-  side-reads.Learnt,
+  with-separator-reads.Asked,
+  with-separator-reads.Learnt,
+  group-on-reads.Asked,
+  group-on-reads.Learnt,
   gather-below t,
   gather.Post,
 ) (gather-at t) gather.Post
@@ -146,10 +146,10 @@ gather-broken-requires-2 : (t : ℕ) → gather-lts.Need-broken-requires-2 (
   broken-reads.Learnt,
   first-clean-reads.Asked,
   first-clean-reads.Learnt,
-  added-reads.Asked,
-  added-reads.Learnt,
-  side-reads.Asked,
-  side-reads.Learnt,
+  with-separator-reads.Asked,
+  with-separator-reads.Learnt,
+  group-on-reads.Asked,
+  group-on-reads.Learnt,
   gather-below t,
   gather.Post,
 ) (gather-at t) gather.Post
@@ -162,46 +162,46 @@ gather-returns-3 : (t : ℕ) → gather-lts.Need-returns-3 (
   broken-reads.Learnt,
   first-clean-reads.Asked,
   first-clean-reads.Learnt,
-  added-reads.Asked,
-  added-reads.Learnt,
-  side-reads.Asked,
-  side-reads.Learnt,
+  with-separator-reads.Asked,
+  with-separator-reads.Learnt,
+  group-on-reads.Asked,
+  group-on-reads.Learnt,
   gather-below t,
   gather.Post,
 ) (gather-at t) gather.Post
 gather-returns-3 t c = through-stuck (members (c .before .before .before .before .before .before .before .args .children) (c .before .before .before .before .before .before .before .args .group)) _ (two-of (members (c .before .before .before .before .before .before .before .args .children) (c .before .before .before .before .before .before .before .args .group)) (c .before .before .before .before .before .before .size .ensures _) (c .before .before .before .before .before .if1 .left) (c .before .before .before .before .if2 .left)) (nothing-of (members (c .before .before .before .before .before .before .before .args .children) (c .before .before .before .before .before .before .before .args .group)) (c .before .before .before .first-clean .ensures) (c .before .enum-told .given .1)) (c .broken2 .ensures)
 
-gather-added-requires : (t : ℕ) → gather-lts.Need-added-requires (
+gather-with-separator-requires : (t : ℕ) → gather-lts.Need-with-separator-requires (
   size-reads.Asked,
   size-reads.Learnt,
   broken-reads.Asked,
   broken-reads.Learnt,
   first-clean-reads.Asked,
   first-clean-reads.Learnt,
-  added-reads.Asked,
-  added-reads.Learnt,
-  side-reads.Asked,
-  side-reads.Learnt,
+  with-separator-reads.Asked,
+  with-separator-reads.Learnt,
+  group-on-reads.Asked,
+  group-on-reads.Learnt,
   gather-below t,
   gather.Post,
 ) (gather-at t) gather.Post
-gather-added-requires t c κs = add-room (members (c .before .before .before .before .before .before .before .args .children) (c .before .before .before .before .before .before .before .args .group)) (c .before .before .before .before .before .before .before .pre .1) (two-of (members (c .before .before .before .before .before .before .before .args .children) (c .before .before .before .before .before .before .before .args .group)) (c .before .before .before .before .before .before .size .ensures _) (c .before .before .before .before .before .if1 .left) (c .before .before .before .before .if2 .left))
+gather-with-separator-requires t c κs = add-room (members (c .before .before .before .before .before .before .before .args .children) (c .before .before .before .before .before .before .before .args .group)) (c .before .before .before .before .before .before .before .pre .1) (two-of (members (c .before .before .before .before .before .before .before .args .children) (c .before .before .before .before .before .before .before .args .group)) (c .before .before .before .before .before .before .size .ensures _) (c .before .before .before .before .before .if1 .left) (c .before .before .before .before .if2 .left))
 
-gather-side-requires : (t : ℕ) → gather-lts.Need-side-requires (
+gather-group-on-requires : (t : ℕ) → gather-lts.Need-group-on-requires (
   size-reads.Asked,
   size-reads.Learnt,
   broken-reads.Asked,
   broken-reads.Learnt,
   first-clean-reads.Asked,
   first-clean-reads.Learnt,
-  added-reads.Asked,
-  added-reads.Learnt,
-  side-reads.Asked,
-  side-reads.Learnt,
+  with-separator-reads.Asked,
+  with-separator-reads.Learnt,
+  group-on-reads.Asked,
+  group-on-reads.Learnt,
   gather-below t,
   gather.Post,
 ) (gather-at t) gather.Post
-gather-side-requires t c κs = search needs
+gather-group-on-requires t c κs = search needs
 
 gather-gather-requires : (t : ℕ) → gather-lts.Need-gather-requires (
   size-reads.Asked,
@@ -210,10 +210,10 @@ gather-gather-requires : (t : ℕ) → gather-lts.Need-gather-requires (
   broken-reads.Learnt,
   first-clean-reads.Asked,
   first-clean-reads.Learnt,
-  added-reads.Asked,
-  added-reads.Learnt,
-  side-reads.Asked,
-  side-reads.Learnt,
+  with-separator-reads.Asked,
+  with-separator-reads.Learnt,
+  group-on-reads.Asked,
+  group-on-reads.Learnt,
   gather-below t,
   gather.Post,
 ) (gather-at t) gather.Post
@@ -221,23 +221,23 @@ gather-gather-requires t c κs =
     let gs = (members (c .before .before .before .before .before .before .before .before .before .args .children) (c .before .before .before .before .before .before .before .before .before .args .group)) in
     let two = two-of (members (c .before .before .before .before .before .before .before .before .before .args .children) (c .before .before .before .before .before .before .before .before .before .args .group)) (c .before .before .before .before .before .before .before .before .size .ensures _) (c .before .before .before .before .before .before .before .if1 .left) (c .before .before .before .before .before .before .if2 .left) in
     let f : Splitting gs (c .before .before .before .s .given .0 .0) (c .before .before .before .before .before .before .before .before .before .args .so-far) = record { kept = c .before .before .before .before .before .before .before .before .before .pre .1 .0; room = c .before .before .before .before .before .before .before .before .before .pre .1 .1; two = two; found = line-of gs (c .before .before .before .before .before .first-clean .ensures) (c .before .before .before .s .given .1) } in
-    (omega (arith, c .before .before .before .before .before .before .before .before .before .pre .0, first-less f (c .before .added .ensures) (c .side .ensures)), first-room f (c .before .added .ensures) (c .side .ensures))
+    (omega (arith, c .before .before .before .before .before .before .before .before .before .pre .0, first-less f (c .before .with-separator .ensures) (c .group-on .ensures)), first-room f (c .before .with-separator .ensures) (c .group-on .ensures))
 
-gather-side-requires-2 : (t : ℕ) → gather-lts.Need-side-requires-2 (
+gather-group-on-requires-2 : (t : ℕ) → gather-lts.Need-group-on-requires-2 (
   size-reads.Asked,
   size-reads.Learnt,
   broken-reads.Asked,
   broken-reads.Learnt,
   first-clean-reads.Asked,
   first-clean-reads.Learnt,
-  added-reads.Asked,
-  added-reads.Learnt,
-  side-reads.Asked,
-  side-reads.Learnt,
+  with-separator-reads.Asked,
+  with-separator-reads.Learnt,
+  group-on-reads.Asked,
+  group-on-reads.Learnt,
   gather-below t,
   gather.Post,
 ) (gather-at t) gather.Post
-gather-side-requires-2 t c κs = search needs
+gather-group-on-requires-2 t c κs = search needs
 
 gather-gather-requires-2 : (t : ℕ) → gather-lts.Need-gather-requires-2 (
   size-reads.Asked,
@@ -246,10 +246,10 @@ gather-gather-requires-2 : (t : ℕ) → gather-lts.Need-gather-requires-2 (
   broken-reads.Learnt,
   first-clean-reads.Asked,
   first-clean-reads.Learnt,
-  added-reads.Asked,
-  added-reads.Learnt,
-  side-reads.Asked,
-  side-reads.Learnt,
+  with-separator-reads.Asked,
+  with-separator-reads.Learnt,
+  group-on-reads.Asked,
+  group-on-reads.Learnt,
   gather-below t,
   gather.Post,
 ) (gather-at t) gather.Post
@@ -257,7 +257,7 @@ gather-gather-requires-2 t c κs =
     let gs = (members (c .before .before .before .before .before .before .before .before .before .before .before .args .children) (c .before .before .before .before .before .before .before .before .before .before .before .args .group)) in
     let two = two-of (members (c .before .before .before .before .before .before .before .before .before .before .before .args .children) (c .before .before .before .before .before .before .before .before .before .before .before .args .group)) (c .before .before .before .before .before .before .before .before .before .before .size .ensures _) (c .before .before .before .before .before .before .before .before .before .if1 .left) (c .before .before .before .before .before .before .before .before .if2 .left) in
     let f : Splitting gs (c .before .before .before .before .before .s .given .0 .0) (c .before .before .before .before .before .before .before .before .before .before .before .args .so-far) = record { kept = c .before .before .before .before .before .before .before .before .before .before .before .pre .1 .0; room = c .before .before .before .before .before .before .before .before .before .before .before .pre .1 .1; two = two; found = line-of gs (c .before .before .before .before .before .before .before .first-clean .ensures) (c .before .before .before .before .before .s .given .1) } in
-    (omega (arith, c .before .before .before .before .before .before .before .before .before .before .before .pre .0, second-less f (c .before .before .before .added .ensures) (c .before .before .side .ensures) (c .before .gather .ensures) (c .side2 .ensures)), second-room f (c .before .before .before .added .ensures) (c .before .before .side .ensures) (c .before .gather .ensures) (c .side2 .ensures))
+    (omega (arith, c .before .before .before .before .before .before .before .before .before .before .before .pre .0, second-less f (c .before .before .before .with-separator .ensures) (c .before .before .group-on .ensures) (c .before .gather .ensures) (c .group-on2 .ensures)), second-room f (c .before .before .before .with-separator .ensures) (c .before .before .group-on .ensures) (c .before .gather .ensures) (c .group-on2 .ensures))
 
 gather-returns-4 : (t : ℕ) → gather-lts.Need-returns-4 (
   size-reads.Asked,
@@ -266,10 +266,10 @@ gather-returns-4 : (t : ℕ) → gather-lts.Need-returns-4 (
   broken-reads.Learnt,
   first-clean-reads.Asked,
   first-clean-reads.Learnt,
-  added-reads.Asked,
-  added-reads.Learnt,
-  side-reads.Asked,
-  side-reads.Learnt,
+  with-separator-reads.Asked,
+  with-separator-reads.Learnt,
+  group-on-reads.Asked,
+  group-on-reads.Learnt,
   gather-below t,
   gather.Post,
 ) (gather-at t) gather.Post
@@ -277,7 +277,7 @@ gather-returns-4 t c =
     let gs = (members (c .before .before .before .before .before .before .before .before .before .before .before .before .args .children) (c .before .before .before .before .before .before .before .before .before .before .before .before .args .group)) in
     let two = two-of (members (c .before .before .before .before .before .before .before .before .before .before .before .before .args .children) (c .before .before .before .before .before .before .before .before .before .before .before .before .args .group)) (c .before .before .before .before .before .before .before .before .before .before .before .size .ensures _) (c .before .before .before .before .before .before .before .before .before .before .if1 .left) (c .before .before .before .before .before .before .before .before .before .if2 .left) in
     let f : Splitting gs (c .before .before .before .before .before .before .s .given .0 .0) (c .before .before .before .before .before .before .before .before .before .before .before .before .args .so-far) = record { kept = c .before .before .before .before .before .before .before .before .before .before .before .before .pre .1 .0; room = c .before .before .before .before .before .before .before .before .before .before .before .before .pre .1 .1; two = two; found = line-of gs (c .before .before .before .before .before .before .before .before .first-clean .ensures) (c .before .before .before .before .before .before .s .given .1) } in
-    through-split f (c .before .before .before .before .added .ensures) (c .before .before .before .side .ensures) (c .before .before .gather .ensures) (c .before .side2 .ensures) (c .gather2 .ensures)
+    through-split f (c .before .before .before .before .with-separator .ensures) (c .before .before .before .group-on .ensures) (c .before .before .gather .ensures) (c .before .group-on2 .ensures) (c .gather2 .ensures)
 
 pub +gather-spec : {M : Type 1} → statement M
 +gather-spec = close μ-gather λ t. gather-lts.spec (
@@ -287,10 +287,10 @@ pub +gather-spec : {M : Type 1} → statement M
   broken-reads.Learnt,
   first-clean-reads.Asked,
   first-clean-reads.Learnt,
-  added-reads.Asked,
-  added-reads.Learnt,
-  side-reads.Asked,
-  side-reads.Learnt,
+  with-separator-reads.Asked,
+  with-separator-reads.Learnt,
+  group-on-reads.Asked,
+  group-on-reads.Learnt,
   gather-below t,
   gather.Post,
 )
@@ -305,9 +305,9 @@ pub +gather-spec : {M : Type 1} → statement M
     (gather-enum-told t)
     (gather-broken-requires-2 t)
     (gather-returns-3 t)
-    (gather-added-requires t)
-    (gather-side-requires t)
+    (gather-with-separator-requires t)
+    (gather-group-on-requires t)
     (gather-gather-requires t)
-    (gather-side-requires-2 t)
+    (gather-group-on-requires-2 t)
     (gather-gather-requires-2 t)
     (gather-returns-4 t)

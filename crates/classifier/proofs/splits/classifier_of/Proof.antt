@@ -1,9 +1,9 @@
 -- `splits::classifier_of` goes through the tree of all four children, and asks for each pattern of sides.
 use mathlib.Core.Path.{refl}
 use borrow.Author.Needs.{needs}
-use Rattle.classifier.specs.Sets.{membersFrom}
+use Rattle.classifier.specs.Inside.Sets.{membersFrom}
 use Rattle.classifier.proofs.GatherLaws.{start-room, found-kept, classifier-is}
-use Rattle.classifier.specs.Parts.{polygonsOf}
+use Rattle.classifier.specs.Shapes.{polygonsOf}
 use Rattle.classifier.proofs.splits.classifier_of.Statement.{statement}
 use Rattle.classifier.proofs.splits.classifier_of.Tie as tie
 

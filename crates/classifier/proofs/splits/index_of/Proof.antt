@@ -1,7 +1,7 @@
 -- `splits::index_of` passes the lines that are not the one asked for.
 use Prim.Native.Nat.{_-_}
 use borrow.Author.Needs.{needs}
-use Rattle.classifier.specs.Sets.{linesOf}
+use Rattle.classifier.specs.Inside.Sets.{gatheredLines}
 use Rattle.classifier.proofs.GatherLaws.{Indexed, index-start, line-fits, index-place, index-found, index-next, index-end}
 use Rattle.classifier.proofs.splits.index_of.Statement.{statement}
 use Rattle.classifier.proofs.splits.index_of.Tie as tie
@@ -25,7 +25,7 @@ is-same-requires : tie.Need-is-same-requires Inv-loop μ-loop
 is-same-requires c κs = search needs
 
 returns : tie.Need-returns Inv-loop μ-loop
-unfolding linesOf
+unfolding gatheredLines
 returns c = index-found (c .before .before .before .before .loop .inv) _ (c .before .before .before .loop-test .taken) (c .before .is-same .ensures) (c .if1 .taken)
 
 add-i : tie.Need-add-i Inv-loop μ-loop
@@ -38,7 +38,7 @@ loop-again : tie.Need-loop-again Inv-loop μ-loop
 loop-again c = index-next (c .before .before .before .before .loop .inv) _ (c .before .before .before .loop-test .taken) (c .before .is-same .ensures) (c .if1 .left)
 
 returns-2 : tie.Need-returns-2 Inv-loop μ-loop
-unfolding linesOf
+unfolding gatheredLines
 returns-2 c = index-end (c .before .loop .inv) (c .loop-test .left)
 
 pub index-of-spec : {M : Type 1} → statement M

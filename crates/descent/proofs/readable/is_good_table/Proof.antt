@@ -1,6 +1,6 @@
 -- `is_good_table`, test by test.
 use borrow.Author.Needs.{needs}
-use Rattle.descent.proofs.ReadLaws.{table-few, table-many, table-odd, table-short, table-token, table-states}
+use Rattle.descent.proofs.TableTestLaws.{table-few, table-many, table-odd, table-short, table-token, table-states}
 use Rattle.descent.proofs.readable.is_good_table.Statement.{statement}
 use Rattle.descent.proofs.readable.is_good_table.Tie as tie
 

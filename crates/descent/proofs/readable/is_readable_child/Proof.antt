@@ -3,7 +3,7 @@ use borrow.Author.Needs.{needs}
 use mathlib.Core.Path.{refl}
 use mir.Syntax.{w32}
 use Rattle.whole.proofs.View.{seen, kept}
-use Rattle.descent.proofs.ReadLaws.{child-low, child-high}
+use Rattle.descent.proofs.TableTestLaws.{child-low, child-high}
 use Rattle.descent.proofs.readable.is_readable_child.Statement.{statement}
 use Rattle.descent.proofs.readable.is_readable_child.Tie as tie
 

@@ -2,7 +2,7 @@
 use mathlib.Core.Path.{refl}
 use mir.Syntax.{w32}
 use Rattle.whole.proofs.View.{seen, kept}
-use Rattle.descent.proofs.ReadLaws.{flavor-low, flavor-high}
+use Rattle.descent.proofs.TableTestLaws.{flavor-low, flavor-high}
 use Rattle.descent.proofs.readable.is_readable_flavor.Statement.{statement}
 use Rattle.descent.proofs.readable.is_readable_flavor.Tie as tie
 

@@ -2,7 +2,7 @@
 use mathlib.Core.Path.{refl}
 use mir.Syntax.{w32}
 use Rattle.whole.proofs.View.{seen, kept}
-use Rattle.descent.proofs.ReadLaws.{size-low, size-high}
+use Rattle.descent.proofs.TableTestLaws.{size-low, size-high}
 use Rattle.descent.proofs.readable.is_readable_size.Statement.{statement}
 use Rattle.descent.proofs.readable.is_readable_size.Tie as tie
 

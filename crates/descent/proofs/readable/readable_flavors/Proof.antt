@@ -7,7 +7,7 @@ use borrow.Author.Needs.{needs}
 use lib.Dec.{T}
 use lib.IntN.{ℤ}
 use Rattle.tables.specs.Descent.{allBelow, readableFlavor, flavorAt}
-use Rattle.descent.proofs.ReadLaws.{range-fails, range-next, range-ends, entry-flag}
+use Rattle.descent.proofs.TableTestLaws.{range-fails, range-next, range-ends, entry-flag}
 use Rattle.descent.proofs.readable.readable_flavors.Statement.{statement}
 use Rattle.descent.proofs.readable.readable_flavors.Tie as tie
 

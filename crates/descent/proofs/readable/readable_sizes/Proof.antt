@@ -7,7 +7,7 @@ use borrow.Author.Needs.{needs}
 use lib.Dec.{T}
 use lib.IntN.{ℤ}
 use Rattle.tables.specs.Descent.{allBelow, readableSize, entry}
-use Rattle.descent.proofs.ReadLaws.{range-fails, range-next, range-ends, entry-flag}
+use Rattle.descent.proofs.TableTestLaws.{range-fails, range-next, range-ends, entry-flag}
 use Rattle.descent.proofs.readable.readable_sizes.Statement.{statement}
 use Rattle.descent.proofs.readable.readable_sizes.Tie as tie
 

@@ -1,6 +1,6 @@
 -- `readable_state`: its three ranges.
 use borrow.Author.Needs.{needs}
-use Rattle.descent.proofs.ReadLaws.{state-children, state-sizes, state-flavors}
+use Rattle.descent.proofs.TableTestLaws.{state-children, state-sizes, state-flavors}
 use Rattle.descent.proofs.readable.readable_state.Statement.{statement}
 use Rattle.descent.proofs.readable.readable_state.Tie as tie
 

@@ -5,7 +5,7 @@ use native.Mathlib.Omega.{arith}
 use borrow.Author.Needs.{needs}
 use lib.Dec.{T}
 use Rattle.tables.specs.Descent.{allBelow, readableState}
-use Rattle.descent.proofs.ReadLaws.{range-fails, range-next, range-ends, part-length, part-readable}
+use Rattle.descent.proofs.TableTestLaws.{range-fails, range-next, range-ends, part-length, part-readable}
 use Rattle.descent.proofs.readable.readable_states.Statement.{statement}
 use Rattle.descent.proofs.readable.readable_states.Tie as tie
 

@@ -3,7 +3,7 @@ use mathlib.Core.Path.{_≡_, refl, sym, _∙_}
 use Prim.Native.Nat.{_-_}
 use native.Mathlib.Nat.{sub-zero}
 use borrow.Author.Needs.{needs}
-use Rattle.grammar.specs.TextParts.{hasName}
+use Rattle.grammar.specs.Scans.{hasName}
 use Rattle.grammar.proofs.TallyLaws.{name-here, name-next, name-none}
 use Rattle.grammar.proofs.lines.is_named.Statement.{statement}
 use Rattle.grammar.proofs.lines.is_named.Tie as tie

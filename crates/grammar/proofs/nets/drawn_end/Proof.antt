@@ -1,5 +1,5 @@
 -- `nets::drawn_end` walks along the draws of a word, which fit into the buffer.
-use Rattle.grammar.proofs.NetLaws.{drawn-room, drawn-long, drawn-ends}
+use Rattle.grammar.proofs.NetLaws.{netting}
 use borrow.Author.Needs.{needs}
 use Rattle.grammar.proofs.nets.drawn_end.Statement.{statement}
 use Rattle.grammar.proofs.nets.drawn_end.Tie as tie
@@ -7,11 +7,14 @@ use Rattle.grammar.proofs.nets.drawn_end.Tie as tie
 draw-book-requires : tie.Need-draw-book-requires
 draw-book-requires c κs = search needs
 
-slice-aggregate-passed : tie.Need-slice-aggregate-passed
-slice-aggregate-passed c = search needs
+slice-aggregate-expand-once : tie.Need-slice-aggregate-expand-once
+slice-aggregate-expand-once c = search needs
 
-passed-requires : tie.Need-passed-requires
-passed-requires c κs = search (needs, drawn-room)
+expand-once-requires : tie.Need-expand-once-requires
+expand-once-requires c κs = search needs
+
+count-requires : tie.Need-count-requires
+count-requires c κs = search needs
 
 slice-aggregate-word-at : tie.Need-slice-aggregate-word-at
 slice-aggregate-word-at c = search needs
@@ -19,25 +22,21 @@ slice-aggregate-word-at c = search needs
 word-at-requires : tie.Need-word-at-requires
 word-at-requires c κs = search needs
 
-walked-requires : tie.Need-walked-requires
-walked-requires c κs = search (needs, drawn-long)
+walk-end-requires : tie.Need-walk-end-requires
+walk-end-requires c κs = search (needs, netting)
 
 returns : tie.Need-returns
-returns c =
-    let at-word-at = c .before in
-    let at-passed = at-word-at .before .before .before in
-    let at-draw-book = at-passed .before .before in
-    let start = at-draw-book .before .before .before in
-    drawn-ends (start .args .text .now) (start .args .lines) (start .pre .0) (at-draw-book .draw-book .ensures) (start .args .w .now) (at-passed .passed .result) (at-passed .passed .last .1 .1 .1 .0) (at-passed .passed .ensures) (at-word-at .word-at .ensures) (c .walked .ensures)
+returns c = search (needs, netting)
 
 pub drawn-end-spec : {M : Type 1} → statement M
 drawn-end-spec =
     tie.close
     (tie.spec
     draw-book-requires
-    slice-aggregate-passed
-    passed-requires
+    slice-aggregate-expand-once
+    expand-once-requires
+    count-requires
     slice-aggregate-word-at
     word-at-requires
-    walked-requires
+    walk-end-requires
     returns)

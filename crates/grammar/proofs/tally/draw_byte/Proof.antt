@@ -2,7 +2,7 @@
 use Rattle.turtle.specs.Letters.{toggled, letters, strokeOf}
 use Rattle.turtle.specs.Walk.{symbolOf}
 use Rattle.grammar.specs.Words.{upper}
-use Rattle.grammar.specs.TextParts.{leftward, rightward, lettered, strayed}
+use Rattle.grammar.specs.Inside.Tallies.{leftward, rightward, lettered, strayed}
 use Rattle.grammar.proofs.TallyLaws.{draw-at, draw-nothing}
 use Rattle.grammar.proofs.tally.draw_byte.Statement.{statement}
 use Rattle.grammar.proofs.tally.draw_byte.Tie as tie

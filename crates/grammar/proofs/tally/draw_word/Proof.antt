@@ -3,8 +3,8 @@ use Prim.Native.Nat.{_-_}
 use native.Mathlib.Omega.{arith}
 use lib.ListN.{length, take}
 use borrow.Author.Needs.{needs}
-use Rattle.grammar.specs.TextParts.{DrawWord}
-use Rattle.grammar.proofs.TallyLaws.{Modest, modest-none, modest-met, draw-none, draw-next, draw-all}
+use Rattle.grammar.specs.Inside.Tallies.{DrawWord}
+use Rattle.grammar.proofs.TallyLaws.{Modest, modest-none, modest-more, draw-none, draw-next, draw-all}
 use Rattle.grammar.proofs.tally.draw_word.Statement.{statement}
 use Rattle.grammar.proofs.tally.draw_word.Tie as tie
 
@@ -26,8 +26,8 @@ shared-slice-read-draw-byte c = search needs
 draw-byte-requires : tie.Need-draw-byte-requires Inv-loop μ-loop
 draw-byte-requires c κs = search needs
 
-met-requires : tie.Need-met-requires Inv-loop μ-loop
-met-requires c κs = (omega (arith, c .before .before .before .loop .inv .1 .few), c .before .before .before .loop .inv .1 .small)
+with-byte-requires : tie.Need-with-byte-requires Inv-loop μ-loop
+with-byte-requires c κs = (omega (arith, c .before .before .before .loop .inv .1 .few), c .before .before .before .loop .inv .1 .small)
 
 add-i : tie.Need-add-i Inv-loop μ-loop
 add-i c = search needs
@@ -40,7 +40,7 @@ loop-again c =
     let at-draw-byte = c .before in
     let at-loop-test = at-draw-byte .before .before in
     let at-loop = at-loop-test .before in
-    (draw-next _ _ (at-loop-test .loop-test .taken) (c .met .ensures) (at-loop .loop .inv .0) (at-draw-byte .draw-byte .ensures), modest-met (at-draw-byte .draw-byte .result) (at-loop .loop .inv .1) (c .met .ensures))
+    (draw-next _ _ (at-loop-test .loop-test .taken) (c .with-byte .ensures) (at-loop .loop .inv .0) (at-draw-byte .draw-byte .ensures), modest-more (at-draw-byte .draw-byte .result) (at-loop .loop .inv .1) (c .with-byte .ensures))
 
 returns : tie.Need-returns Inv-loop μ-loop
 returns c = draw-all _ _ (c .loop-test .left) (c .before .loop .inv .0)
@@ -55,7 +55,7 @@ draw-word-spec =
     loop-holds
     shared-slice-read-draw-byte
     draw-byte-requires
-    met-requires
+    with-byte-requires
     add-i
     loop-less
     loop-again

@@ -1,5 +1,5 @@
 -- `tally::rule_byte` tells what a byte of a rule is: a turn, a letter of a listed motif, or neither.
-use Rattle.grammar.specs.TextParts.{linesBy}
+use Rattle.grammar.specs.Inside.Places.{linesBy}
 use Rattle.grammar.proofs.TallyLaws.{listed-by, rule-left, rule-right, rule-letter, rule-nothing}
 use borrow.Author.Needs.{needs}
 use Rattle.grammar.proofs.tally.rule_byte.Statement.{statement}

@@ -4,8 +4,9 @@ use Prim.Native.Nat.{ℕ, _-_}
 use native.Mathlib.Omega.{arith}
 use lib.ListN.{length, take}
 use borrow.Author.Needs.{needs}
-use Rattle.grammar.specs.TextParts.{linesBy, directed, RuleWord}
-use Rattle.grammar.proofs.TallyLaws.{Modest, modest-none, modest-met, rule-none, rule-next, rule-all, inside-directed, past-directed}
+use Rattle.grammar.specs.Inside.Places.{linesBy}
+use Rattle.grammar.specs.Inside.Tallies.{directed, RuleWord}
+use Rattle.grammar.proofs.TallyLaws.{Modest, modest-none, modest-more, rule-none, rule-next, rule-all, inside-directed, past-directed}
 use Rattle.grammar.proofs.tally.rule_word.Statement.{statement}
 use Rattle.grammar.proofs.tally.rule_word.Tie as tie
 
@@ -27,8 +28,8 @@ byte-of-requires c κs = search needs
 rule-byte-requires : tie.Need-rule-byte-requires Inv-loop μ-loop
 rule-byte-requires c κs = search needs
 
-met-requires : tie.Need-met-requires Inv-loop μ-loop
-met-requires c κs = (omega (arith, c .before .before .before .loop .inv .1 .few), c .before .before .before .loop .inv .1 .small)
+with-byte-requires : tie.Need-with-byte-requires Inv-loop μ-loop
+with-byte-requires c κs = (omega (arith, c .before .before .before .loop .inv .1 .few), c .before .before .before .loop .inv .1 .small)
 
 add-i : tie.Need-add-i Inv-loop μ-loop
 add-i c = search needs
@@ -43,7 +44,7 @@ loop-again c =
     let at-loop-test = at-byte-of .before in
     let at-loop = at-loop-test .before in
     let start = at-loop .before .before .before in
-    (λ text. rule-next (directed (start .args .back) (start .args .w .now)) _ (inside-directed (start .args .back) (start .args .w .now) (at-loop-test .loop-test .taken)) (c .met .ensures) (linesBy text (start .args .lines)) (at-loop .loop .inv .0 text) (at-byte-of .byte-of .ensures) (at-rule-byte .rule-byte .ensures text), modest-met (at-rule-byte .rule-byte .result) (at-loop .loop .inv .1) (c .met .ensures))
+    (λ text. rule-next (directed (start .args .back) (start .args .w .now)) _ (inside-directed (start .args .back) (start .args .w .now) (at-loop-test .loop-test .taken)) (c .with-byte .ensures) (linesBy text (start .args .lines)) (at-loop .loop .inv .0 text) (at-byte-of .byte-of .ensures) (at-rule-byte .rule-byte .ensures text), modest-more (at-rule-byte .rule-byte .result) (at-loop .loop .inv .1) (c .with-byte .ensures))
 
 returns : tie.Need-returns Inv-loop μ-loop
 returns c =
@@ -61,7 +62,7 @@ rule-word-spec =
     loop-holds
     byte-of-requires
     rule-byte-requires
-    met-requires
+    with-byte-requires
     add-i
     loop-less
     loop-again

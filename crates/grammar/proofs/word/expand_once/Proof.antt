@@ -5,7 +5,7 @@ use native.Mathlib.Omega.{arith}
 use lib.ListN.{length}
 use borrow.Author.Needs.{needs}
 use Rattle.grammar.specs.Books.{bookOf}
-use Rattle.grammar.proofs.WordLaws.{enough, lacking, short}
+use Rattle.grammar.proofs.WordByteLaws.{enough, lacking, short}
 use Rattle.grammar.proofs.ExpandLaws.{Passed, passed-none, place-within, word-within, part-within, passed-next, passed-all}
 use Rattle.grammar.proofs.word.expand_once.Statement.{statement}
 use Rattle.grammar.proofs.word.expand_once.Tie as tie

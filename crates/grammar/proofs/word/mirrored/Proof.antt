@@ -1,5 +1,5 @@
 -- `word::mirrored` swaps what the definition swaps: each arm by the range that the byte is in.
-use Rattle.grammar.proofs.WordLaws.{bytes}
+use Rattle.grammar.proofs.WordByteLaws.{bytes}
 use borrow.Author.Needs.{needs}
 use Rattle.grammar.proofs.word.mirrored.Statement.{statement}
 use Rattle.grammar.proofs.word.mirrored.Tie as tie

@@ -1,5 +1,5 @@
 -- `word::reverse_motif` answers and leaves the buffer as the definitions say: refused where it is too short, else by `write_back`.
-use Rattle.grammar.proofs.WordLaws.{short, written, length-reversed}
+use Rattle.grammar.proofs.WordByteLaws.{short, written, length-reversed}
 use borrow.Author.Needs.{needs}
 use Rattle.grammar.proofs.word.reverse_motif.Statement.{statement}
 use Rattle.grammar.proofs.word.reverse_motif.Tie as tie

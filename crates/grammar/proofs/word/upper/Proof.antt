@@ -1,5 +1,5 @@
 -- `word::upper` is the definition: each arm by the range that the byte is in.
-use Rattle.grammar.proofs.WordLaws.{bytes}
+use Rattle.grammar.proofs.WordByteLaws.{bytes}
 use borrow.Author.Needs.{needs}
 use Rattle.grammar.proofs.word.upper.Statement.{statement}
 use Rattle.grammar.proofs.word.upper.Tie as tie

@@ -5,7 +5,7 @@ use native.Mathlib.Omega.{arith}
 use lib.ListN.{length, length-set}
 use Rattle.whole.proofs.Fill.{poured, poured-more, poured-all}
 use Rattle.grammar.specs.Words.{reversed}
-use Rattle.grammar.proofs.WordLaws.{length-reversed, reversed-at}
+use Rattle.grammar.proofs.WordByteLaws.{length-reversed, reversed-at}
 use Rattle.grammar.proofs.word.write_back.Statement.{statement}
 use Rattle.grammar.proofs.word.write_back.Tie as tie
 

@@ -1,12 +1,12 @@
--- `cell::triple_at`: the column counts from the side, and no number leaves the range of an i32.
+-- `cell::triple_at`: the column counts from the rows, and no number leaves the range of an i32.
 use native.Mathlib.Omega.{arith}
 use mathlib.Core.Path.{_∙_}
 use Prim.Native.Nat.{_+_, _^_}
 use lib.IntN.{pos}
 use mir.Syntax.{w32, w64}
-use Rattle.whole.proofs.View.{View, seen, v-upto, v-unsigned, v-same, fits, eq-by}
+use Rattle.whole.proofs.View.{View, seen, v-upto, v-unsigned, fits, eq-by}
 use Rattle.turtle.proofs.CornerLaws.{triple-is}
-use Rattle.lsystem.proofs.CellCode.{side-small}
+use Rattle.triple.proofs.DomainLaws.{v-power, v-rows}
 use borrow.Author.Needs.{needs}
 use Rattle.lsystem.proofs.cell.triple_at.Statement.{statement}
 use Rattle.lsystem.proofs.cell.triple_at.Tie as tie
@@ -17,19 +17,16 @@ add-column c = search needs
 cast-column : tie.Need-cast-column
 cast-column c = search needs
 
-side-of-requires : tie.Need-side-of-requires
-side-of-requires c κs = search needs
+row-count-requires : tie.Need-row-count-requires
+row-count-requires c κs = search needs
 
-abbrev v-power : (c : tie.Start) → View (pos (2 ^ c .args .resolution))
-v-power c = v-upto (2 ^ c .args .resolution) (2 ^ 30) (side-small _ (c .pre .0))
-
-abbrev v-side : (c : tie.After-side-of) → View (c .side-of .result)
-v-side c = v-same (c .side-of .ensures) (v-power (c .before))
+abbrev v-counted : (c : tie.After-row-count) → View (c .row-count .result)
+v-counted c = v-rows _ (c .before .pre .0) (c .row-count .ensures)
 
 sub-column : tie.Need-sub-column
 sub-column c =
     let x = v-unsigned w64 (c .before .args .x + 1) (2 ^ 30) (omega (arith, c .before .pre .1 .0)) in
-    let side = v-side c in
+    let rows = v-counted c in
     fits (search seen depth 9) tt
 
 cast-up : tie.Need-cast-up
@@ -43,7 +40,7 @@ sub-up c =
 cast-new : tie.Need-cast-new
 cast-new c =
     let x = v-unsigned w64 (c .before .args .x + 1) (2 ^ 30) (omega (arith, c .before .pre .1 .0)) in
-    let side = v-side c in
+    let rows = v-counted c in
     fits (search seen depth 12) tt
 
 cast-new-2 : tie.Need-cast-new-2
@@ -63,8 +60,8 @@ returns c =
     let x = v-unsigned w64 (d .args .x + 1) (2 ^ 30) (omega (arith, d .pre .1 .0)) in
     let y = v-unsigned w32 (d .args .y) (2 ^ 30) (omega (arith, d .pre .1 .1 .0)) in
     let g = v-unsigned w64 (d .args .g) (2 ^ 30) (omega (arith, d .pre .1 .1 .1)) in
-    let side = v-side (c .before) in
-    let power = v-power d in
+    let rows = v-counted (c .before) in
+    let power = v-power _ (d .pre .0) in
     c .new .ensures
     ∙ triple-is (eq-by (search seen depth 14) (search seen depth 9) tt (omega arith)) (eq-by (search seen depth 9) (search seen depth 9) tt (omega arith)) (eq-by (search seen depth 14) (search seen depth 9) tt (omega arith))
 
@@ -74,7 +71,7 @@ triple-at-spec =
     (tie.spec
     add-column
     cast-column
-    side-of-requires
+    row-count-requires
     sub-column
     cast-up
     sub-up

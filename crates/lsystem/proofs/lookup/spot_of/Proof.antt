@@ -1,25 +1,20 @@
 -- `lookup::spot_of`: of a triple in bounds each number is from 0 up, and they are its spot's.
 use borrow.Author.Needs.{needs}
-use Prim.Native.Nat.{_^_}
-use lib.IntN.{pos}
-use Rattle.whole.proofs.View.{View, seen, v-upto, v-same, fits}
-use Rattle.lsystem.proofs.CellCode.{side-small}
+use Rattle.whole.proofs.View.{View, seen, fits}
+use Rattle.triple.proofs.DomainLaws.{v-rows}
 use Rattle.lsystem.proofs.PositionLaws.{spotted, column-is, row-is, slant-is, cast-of, cast-is}
 use Rattle.lsystem.proofs.lookup.spot_of.Statement.{statement}
 use Rattle.lsystem.proofs.lookup.spot_of.Tie as tie
 
-side-of-requires : tie.Need-side-of-requires
-side-of-requires c κs = search needs
+row-count-requires : tie.Need-row-count-requires
+row-count-requires c κs = search needs
 
-abbrev v-power : (c : tie.Start) → View (pos (2 ^ c .args .resolution))
-v-power c = v-upto (2 ^ c .args .resolution) (2 ^ 30) (side-small _ (c .pre .1 .0))
-
-abbrev v-side : (c : tie.After-side-of) → View (c .side-of .result)
-v-side c = v-same (c .side-of .ensures) (v-power (c .before))
+abbrev v-counted : (c : tie.After-row-count) → View (c .row-count .result)
+v-counted c = v-rows _ (c .before .pre .1 .0) (c .row-count .ensures)
 
 sub-x : tie.Need-sub-x
 sub-x c =
-    let side = v-side c in
+    let rows = v-counted c in
     fits (search seen depth 9) tt
 
 cast-x : tie.Need-cast-x
@@ -27,7 +22,7 @@ cast-x c = fits (search seen) tt
 
 add-x : tie.Need-add-x
 add-x c =
-    let side = v-side (c .before .before) in
+    let rows = v-counted (c .before .before) in
     fits (search seen depth 12) tt
 
 cast-g : tie.Need-cast-g
@@ -39,7 +34,7 @@ sub-g c = fits (search seen depth 9) tt
 cast-t8 : tie.Need-cast-t8
 cast-t8 c =
     let d = c .before .before .before .before .before in
-    cast-of _ (column-is (d .args .resolution) (d .args .t) (d .pre) _ (c .before .before .before .before .side-of .ensures)) (spotted _ _ (d .pre) .small .0)
+    cast-of _ (column-is (d .args .resolution) (d .args .t) (d .pre) _ (c .before .before .before .before .row-count .ensures)) (spotted _ _ (d .pre) .small .0)
 
 cast-t9 : tie.Need-cast-t9
 cast-t9 c =
@@ -54,9 +49,9 @@ cast-t10 c =
 returns : tie.Need-returns
 returns c =
     let d = c .before .before .before .before .before .before .before in
-    cast-is _ (column-is (d .args .resolution) (d .args .t) (d .pre) _ (c .before .before .before .before .before .before .side-of .ensures)) (row-is _ (d .args .t) (d .pre)) (slant-is _ (d .args .t) (d .pre)) (spotted _ _ (d .pre) .small)
+    cast-is _ (column-is (d .args .resolution) (d .args .t) (d .pre) _ (c .before .before .before .before .before .before .row-count .ensures)) (row-is _ (d .args .t) (d .pre)) (slant-is _ (d .args .t) (d .pre)) (spotted _ _ (d .pre) .small)
 
 pub spot-of-spec : {M : Type 1} → statement M
 spot-of-spec =
     tie.close
-    (tie.spec side-of-requires sub-x cast-x add-x cast-g sub-g cast-t8 cast-t9 cast-t10 returns)
+    (tie.spec row-count-requires sub-x cast-x add-x cast-g sub-g cast-t8 cast-t9 cast-t10 returns)

@@ -1,8 +1,8 @@
 -- `words::leaf_word` is its list of words: each arm by the number that it matched, the rest by `past`.
-use mathlib.Core.Path.{_≡_, sym, ap}
+use mathlib.Core.Path.{sym, ap}
 use lib.ListN.{List·getD-eq-default}
 use Rattle.whole.proofs.Arms.{past}
-use Rattle.nodes.specs.A5Words.{leafWord, leafWords}
+use Rattle.nodes.specs.Inside.Words.{leafWord, leafWords}
 use Rattle.nodes.proofs.words.leaf_word.Statement.{statement}
 use Rattle.nodes.proofs.words.leaf_word.Tie as tie
 

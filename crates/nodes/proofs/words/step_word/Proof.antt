@@ -1,8 +1,8 @@
 -- `words::step_word` is its list of words: each arm by the number that it matched, the rest by `past`.
-use mathlib.Core.Path.{_≡_, sym, ap}
+use mathlib.Core.Path.{sym, ap}
 use lib.ListN.{List·getD-eq-default}
 use Rattle.whole.proofs.Arms.{past}
-use Rattle.nodes.specs.A5Words.{stepWord, stepWords}
+use Rattle.nodes.specs.Inside.Words.{stepWord, stepWords}
 use Rattle.nodes.proofs.words.step_word.Statement.{statement}
 use Rattle.nodes.proofs.words.step_word.Tie as tie
 

@@ -1,5 +1,5 @@
--- The text's length decides; where there is room, it is copied.
-use Rattle.query.proofs.PrintLaws.{print-refused, print-told}
+-- The text's length decides whether it is put into the buffer.
+use Rattle.query.proofs.PrintLaws.{print-laws}
 use borrow.Author.Needs.{needs}
 use Rattle.query.proofs.print.print.Statement.{statement}
 use Rattle.query.proofs.print.print.Tie as tie
@@ -10,22 +10,26 @@ slice-aggregate-write c = search needs
 write-requires : tie.Need-write-requires
 write-requires c κs = search needs
 
-returns : tie.Need-returns
-returns c = print-refused _ _ _ _ _ (c .before .before .write .ensures) (c .if1 .taken)
+array-share-prefix-text : tie.Need-array-share-prefix-text
+array-share-prefix-text c = search (needs, print-laws)
 
-slice-aggregate-copy : tie.Need-slice-aggregate-copy
-slice-aggregate-copy c = search needs
+slice-aggregate-put-bytes : tie.Need-slice-aggregate-put-bytes
+slice-aggregate-put-bytes c = search (needs, print-laws)
 
-copy-requires : tie.Need-copy-requires
-copy-requires c κs = search needs
+put-bytes-requires : tie.Need-put-bytes-requires
+put-bytes-requires c κs = search needs
 
 same-length : tie.Need-same-length
 same-length c = search needs
 
+returns : tie.Need-returns
+returns c = search (needs, print-laws)
+
+same-length-2 : tie.Need-same-length-2
+same-length-2 c = search needs
+
 returns-2 : tie.Need-returns-2
-returns-2 c =
-    let room = c .before .before .before .before .before in
-    print-told _ _ _ _ _ (room .before .before .write .ensures) (search needs) (room .if1 .left) _ (c .before .before .copy .ensures)
+returns-2 c = search (needs, print-laws)
 
 pub print-spec : {M : Type 1} → statement M
 print-spec =
@@ -33,8 +37,10 @@ print-spec =
     (tie.spec
     slice-aggregate-write
     write-requires
-    returns
-    slice-aggregate-copy
-    copy-requires
+    array-share-prefix-text
+    slice-aggregate-put-bytes
+    put-bytes-requires
     same-length
+    returns
+    same-length-2
     returns-2)

@@ -1,5 +1,5 @@
 -- The line of what was found, or `!` and the refusal's number.
-use Rattle.query.proofs.PrintLaws.{put-found-is, put-refused-is}
+use Rattle.query.proofs.PrintLaws.{found-printed, refusal-printed}
 use borrow.Author.Needs.{needs}
 use Rattle.query.proofs.print.write.Statement.{statement}
 use Rattle.query.proofs.print.write.Tie as tie
@@ -29,13 +29,13 @@ same-length : tie.Need-same-length
 same-length c = search needs
 
 returns : tie.Need-returns
-returns c = search (needs, put-found-is)
+returns c = search (needs, found-printed, refusal-printed)
 
 same-length-2 : tie.Need-same-length-2
 same-length-2 c = search needs
 
 returns-2 : tie.Need-returns-2
-returns-2 c = search (needs, put-refused-is)
+returns-2 c = search (needs, found-printed, refusal-printed)
 
 pub write-spec : {M : Type 1} → statement M
 write-spec =

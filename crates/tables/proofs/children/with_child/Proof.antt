@@ -1,5 +1,5 @@
 -- `children::with_child` puts the child behind those met so far.
-use Rattle.tables.proofs.MeetingLaws.{one-child}
+use Rattle.tables.proofs.RuleChildLaws.{one-child}
 use borrow.Author.Needs.{needs}
 use Rattle.tables.proofs.children.with_child.Statement.{statement}
 use Rattle.tables.proofs.children.with_child.Tie as tie

@@ -1,6 +1,5 @@
 -- `compiler::bad_split` asks for the line's two tokens.
-use Rattle.tables.proofs.CompileLaws.{name-fits, upper-below, lower-below, split-bad, split-last}
-use native.Mathlib.Omega.{arith}
+use Rattle.tables.proofs.UnsplitLaws.{unsplit}
 use borrow.Author.Needs.{needs}
 use Rattle.tables.proofs.compiler.bad_split.Statement.{statement}
 use Rattle.tables.proofs.compiler.bad_split.Tie as tie
@@ -12,22 +11,22 @@ token-of-requires : tie.Need-token-of-requires
 token-of-requires c κs = search needs
 
 splits-requires : tie.Need-splits-requires
-splits-requires c κs = let start = c .before .before .before .before in (start .pre .0, upper-below (start .pre .0) (start .args .i) (start .pre .1) (c .token-of .ensures))
+splits-requires c κs = search (needs, unsplit)
 
 returns : tie.Need-returns
-returns c = let start = c .before .before .before .before .before .before in split-bad (start .pre .0) (start .args .i) (start .pre .1) (c .before .before .token-of .ensures) (c .before .splits .ensures) (c .if1 .taken)
+returns c = search (needs, unsplit)
 
 add-token-of : tie.Need-add-token-of
-add-token-of c = let start = c .before .before .before .before .before .before in omega (arith, name-fits (start .pre .0) (start .args .i) (start .pre .1))
+add-token-of c = search (needs, unsplit)
 
 token-of-requires-2 : tie.Need-token-of-requires-2
 token-of-requires-2 c κs = search needs
 
 splits-requires-2 : tie.Need-splits-requires-2
-splits-requires-2 c κs = let start = c .before .before .before .before .before .before .before in (start .pre .0, lower-below (start .pre .0) (start .args .i) (start .pre .1) (c .token-of2 .ensures))
+splits-requires-2 c κs = search (needs, unsplit)
 
 returns-2 : tie.Need-returns-2
-returns-2 c = let start = c .before .before .before .before .before .before .before .before in split-last (start .pre .0) (start .args .i) (start .pre .1) (c .before .before .before .before .token-of .ensures) (c .before .before .before .splits .ensures) (c .before .before .if1 .left) (c .before .token-of2 .ensures) (c .splits2 .ensures)
+returns-2 c = search (needs, unsplit)
 
 pub bad-split-spec : {M : Type 1} → statement M
 bad-split-spec =

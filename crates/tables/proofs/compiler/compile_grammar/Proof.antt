@@ -1,31 +1,26 @@
 -- `compiler::compile_grammar` tests the text, and compiles what the tests find no fault with.
-use Rattle.tables.proofs.CompileLaws.{text-fault, read-ready}
-use Rattle.grammar.specs.TextAnswers.{saidText}
-use mathlib.Core.Path.{_∙_, sym, ap}
+use Rattle.tables.proofs.CompilerLaws.{by-text}
 use borrow.Author.Needs.{needs}
 use Rattle.tables.proofs.compiler.compile_grammar.Statement.{statement}
 use Rattle.tables.proofs.compiler.compile_grammar.Tie as tie
 
-test-text-requires : tie.Need-test-text-requires
-test-text-requires c κs = search needs
+read-text-requires : tie.Need-read-text-requires
+read-text-requires c κs = search needs
 
-enum-known-e : tie.Need-enum-known-e
-enum-known-e c = search needs
+enum-known-answer : tie.Need-enum-known-answer
+enum-known-answer c = search needs
 
 returns : tie.Need-returns
-returns c = let start = c .before .before .before .before .before in text-fault (start .args .text .now) (start .args .table .now) (sym (c .before .before .before .test-text .ensures) ∙ ap saidText (c .before .e .given .1))
+returns c = search (needs, by-text)
 
 enum-told : tie.Need-enum-told
 enum-told c = search needs
-
-scan-text-requires : tie.Need-scan-text-requires
-scan-text-requires c κs = search needs
 
 source-of-requires : tie.Need-source-of-requires
 source-of-requires c κs = search needs
 
 compile-source-requires : tie.Need-compile-source-requires
-compile-source-requires c κs = read-ready (c .before .before .before .scan-text .ensures) (ap saidText (sym (c .before .before .before .before .enum-told .given .1)) ∙ c .before .before .before .before .before .before .test-text .ensures) (c .before .source-of .ensures)
+compile-source-requires c κs = search (needs, by-text)
 
 same-length : tie.Need-same-length
 same-length c = search needs
@@ -37,11 +32,10 @@ pub compile-grammar-spec : {M : Type 1} → statement M
 compile-grammar-spec =
     tie.close
     (tie.spec
-    test-text-requires
-    enum-known-e
+    read-text-requires
+    enum-known-answer
     returns
     enum-told
-    scan-text-requires
     source-of-requires
     compile-source-requires
     same-length

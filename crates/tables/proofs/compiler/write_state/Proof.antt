@@ -1,14 +1,11 @@
 -- `compiler::write_state` writes the state's numbers.
-use lib.ListN.{drop}
-use native.Mathlib.Omega.{arith}
-use mathlib.Core.List.{_++_}
-use mathlib.Core.Path.{_∙_, ap}
+use Rattle.tables.proofs.StateWriteLaws.{writing}
 use borrow.Author.Needs.{needs}
 use Rattle.tables.proofs.compiler.write_state.Statement.{statement}
 use Rattle.tables.proofs.compiler.write_state.Tie as tie
 
-numbers-of-requires : tie.Need-numbers-of-requires
-numbers-of-requires c κs = search needs
+parts-of-requires : tie.Need-parts-of-requires
+parts-of-requires c κs = search needs
 
 write-numbers-requires : tie.Need-write-numbers-requires
 write-numbers-requires c κs = search needs
@@ -17,8 +14,8 @@ same-length : tie.Need-same-length
 same-length c = search needs
 
 returns : tie.Need-returns
-returns c = c .before .write-numbers .ensures ∙ ap (λ l. l ++ drop 41 (c .before .before .before .before .before .args .part .now)) (c .before .before .before .numbers-of .ensures .1)
+returns c = search (needs, writing)
 
 pub write-state-spec : {M : Type 1} → statement M
 write-state-spec =
-    tie.close (tie.spec numbers-of-requires write-numbers-requires same-length returns)
+    tie.close (tie.spec parts-of-requires write-numbers-requires same-length returns)

@@ -1,71 +1,55 @@
 -- `compiler::write_states` writes state after state.
-use Prim.Native.Nat.{_-_, _+_, _*_, _≤_}
-use Rattle.tables.proofs.CompileLaws.{rowAt, states-next, states-long, states-end, part-room}
-use Rattle.tables.proofs.MeetingLaws.{length-letters}
-use Rattle.tables.specs.Table.{upTo}
-use Rattle.grammar.specs.Texts.{linesOf}
-use Rattle.whole.proofs.Fill.{fronted}
 use borrow.Author.Needs.{needs}
-use lib.ListN.{length}
-use native.Mathlib.Omega.{arith}
-use mathlib.Core.Path.{_≡_, refl}
+use Rattle.tables.proofs.StateWriteLaws.{Writing, writing}
+use Rattle.grammar.specs.Texts.{linesOf}
+use Prim.Native.Nat.{_-_}
 use Rattle.tables.proofs.compiler.write_states.Statement.{statement}
 use Rattle.tables.proofs.compiler.write_states.Tie as tie
 
 abbrev Inv-loop : tie.InvT-loop
-Inv-loop text source table₀ states state₀ table state = (table ≡ fronted (upTo (rowAt (linesOf text)) state) table₀) × (length table ≡ length table₀) × (state ≤ states)
+Inv-loop text source table₀ states state₀ table state = Writing (linesOf text) states table₀ table state
 
 abbrev μ-loop : tie.MeasureT-loop
 μ-loop text source table₀ states state₀ table state = states - state
 
 mul-states : tie.Need-mul-states Inv-loop μ-loop
-mul-states c = omega (arith, c .before .before .pre .0 .held .few)
+mul-states c = search (needs, writing)
 
 loop-holds : tie.Need-loop-holds Inv-loop μ-loop
-loop-holds c = (refl, refl, omega arith)
+loop-holds c = search (needs, writing)
 
 mul-write-state : tie.Need-mul-write-state Inv-loop μ-loop
-mul-write-state c = let start = c .before .before .before .before in omega (arith, start .pre .0 .held .few)
+mul-write-state c = search (needs, writing)
 
 mul-write-state-2 : tie.Need-mul-write-state-2 Inv-loop μ-loop
-mul-write-state-2 c = let start = c .before .before .before .before in omega (arith, start .pre .0 .held .few)
+mul-write-state-2 c = search (needs, writing)
 
 sub-write-state : tie.Need-sub-write-state Inv-loop μ-loop
-sub-write-state c = let start = c .before .before .before .before in omega (arith, start .pre .1, c .before .loop .inv .1)
+sub-write-state c = search (needs, writing)
 
 part-write-state-start : tie.Need-part-write-state-start Inv-loop μ-loop
-part-write-state-start c = let start = c .before .before .before .before in omega (arith, start .pre .1, c .before .loop .inv .1)
+part-write-state-start c = search (needs, writing)
 
 part-write-state-end : tie.Need-part-write-state-end Inv-loop μ-loop
-part-write-state-end c = search needs
+part-write-state-end c = search (needs, writing)
 
 write-state-requires : tie.Need-write-state-requires Inv-loop μ-loop
-write-state-requires c κs =
-    let at-loop = c .before .before in
-    let start = at-loop .before .before .before in
-    (start .pre .0, (c .before .loop-test .taken, part-room (linesOf (start .args .text .now)) (at-loop .loop .state) (start .args .table .now) (at-loop .loop .inv .0) (start .args .source .count) (c .before .loop-test .taken) (omega (arith, start .pre .1, at-loop .loop .inv .1))))
+write-state-requires c κs = search (needs, writing)
 
 add-state : tie.Need-add-state Inv-loop μ-loop
-add-state c = let start = c .before .before .before .before .before .before .before in omega (arith, start .pre .0 .held .few)
+add-state c = search (needs, writing)
 
 loop-less : tie.Need-loop-less Inv-loop μ-loop
-loop-less c = omega arith
+loop-less c = search (needs, writing)
 
 loop-again : tie.Need-loop-again Inv-loop μ-loop
-loop-again c =
-    let at-loop = c .before .before .before .before in
-    let start = at-loop .before .before .before in
-    let next = states-next (linesOf (start .args .text .now)) (at-loop .loop .state) (start .args .table .now) (at-loop .loop .inv .0) (c .before .write-state .ensures) in
-    (next, states-long (linesOf (start .args .text .now)) (at-loop .loop .state + 1) (start .args .table .now) next (omega (arith, start .pre .1)), omega arith)
+loop-again c = search (needs, writing)
 
 same-length : tie.Need-same-length Inv-loop μ-loop
-same-length c = c .before .loop .inv .1
+same-length c = search (needs, writing)
 
 returns : tie.Need-returns Inv-loop μ-loop
-returns c =
-    let at-loop = c .before in
-    let start = at-loop .before .before .before in
-    states-end (linesOf (start .args .text .now)) (at-loop .loop .state) (start .args .table .now) (at-loop .loop .inv .0) (start .args .source .count) (length-letters (start .pre .0)) (omega (arith, at-loop .loop .inv .2))
+returns c = search (needs, writing)
 
 pub write-states-spec : {M : Type 1} → statement M
 write-states-spec =

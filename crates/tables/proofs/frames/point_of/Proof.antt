@@ -1,6 +1,6 @@
 -- `frames::point_of` has both coordinates.
 use Rattle.tables.proofs.FrameLaws.{pointed}
-use Rattle.classifier.proofs.ReadLaws.{seen8}
+use Rattle.classifier.proofs.ComparisonLaws.{seen8}
 use Rattle.whole.proofs.View.{fits}
 use borrow.Author.Needs.{needs}
 use Rattle.tables.proofs.frames.point_of.Statement.{statement}

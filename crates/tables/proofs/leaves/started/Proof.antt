@@ -1,7 +1,5 @@
 -- `leaves::started` stands at the origin, and has drawn nothing.
 use Rattle.tables.proofs.LeafLaws.{starts}
-use mathlib.Core.Path.{refl, ap}
-use native.Mathlib.Omega.{arith}
 use borrow.Author.Needs.{needs}
 use Rattle.tables.proofs.leaves.started.Statement.{statement}
 use Rattle.tables.proofs.leaves.started.Tie as tie

@@ -4,7 +4,6 @@ use Rattle.turtle.specs.Walk.{turtle, symbolsOf}
 use Rattle.turtle.specs.Plane.{origin, facing}
 use lib.ListN.{length, take}
 use borrow.Author.Needs.{needs}
-use native.Mathlib.Omega.{arith}
 use Prim.Native.Nat.{_-_}
 use Rattle.tables.proofs.leaves.walk_strokes.Statement.{statement}
 use Rattle.tables.proofs.leaves.walk_strokes.Tie as tie

@@ -1,5 +1,5 @@
 -- `rows::natural` is the number itself.
-use Rattle.tables.proofs.RowLaws.{natural-is}
+use Rattle.tables.proofs.StateNumberLaws.{natural-is}
 use native.Mathlib.Omega.{arith}
 use borrow.Author.Needs.{needs}
 use Rattle.tables.proofs.rows.natural.Statement.{statement}

@@ -1,5 +1,5 @@
 -- `rows::state_of` is twice the token, and 1 more where flipped.
-use Rattle.tables.proofs.RowLaws.{state-on, state-off}
+use Rattle.tables.proofs.StateNumberLaws.{state-on, state-off}
 use borrow.Author.Needs.{needs}
 use Rattle.tables.proofs.rows.state_of.Statement.{statement}
 use Rattle.tables.proofs.rows.state_of.Tie as tie

@@ -1,5 +1,5 @@
 -- `rows::wide` is the number itself.
-use Rattle.tables.proofs.RowLaws.{wide-fits, wide-is}
+use Rattle.tables.proofs.StateNumberLaws.{wide-fits, wide-is}
 use Rattle.tables.proofs.rows.wide.Statement.{statement}
 use Rattle.tables.proofs.rows.wide.Tie as tie
 

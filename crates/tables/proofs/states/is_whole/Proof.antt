@@ -1,6 +1,5 @@
 -- `states::is_whole` asks the state's classifier.
-use Rattle.grammar.specs.Texts.{linesOf}
-use Rattle.tables.proofs.StateLaws.{whole-is}
+use Rattle.tables.proofs.StateLaws.{stated}
 use borrow.Author.Needs.{needs}
 use Rattle.tables.proofs.states.is_whole.Statement.{statement}
 use Rattle.tables.proofs.states.is_whole.Tie as tie
@@ -15,7 +14,7 @@ classes-of-requires : tie.Need-classes-of-requires
 classes-of-requires c κs = search needs
 
 returns : tie.Need-returns
-returns c = let start = c .before .before .before .before in whole-is (linesOf (start .args .text .now)) (start .args .token) (start .args .flip) (c .classes-of .result) (c .classes-of .ensures)
+returns c = search (needs, stated)
 
 pub is-whole-spec : {M : Type 1} → statement M
 is-whole-spec =

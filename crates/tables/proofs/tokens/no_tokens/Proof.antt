@@ -1,8 +1,7 @@
 -- `tokens::no_tokens` has no token yet.
 use mathlib.Core.Path.{refl}
 use native.Mathlib.Omega.{arith}
-use borrow.Author.Needs.{needs}
-use Rattle.tables.specs.Sources.{lettersIn}
+use Rattle.tables.specs.Inside.Sources.{lettersIn}
 use Rattle.tables.proofs.tokens.no_tokens.Statement.{statement}
 use Rattle.tables.proofs.tokens.no_tokens.Tie as tie
 

@@ -1,8 +1,5 @@
 -- `tokens::rule_into` is a pass of the rules over the one letter.
-use Rattle.grammar.proofs.NetLaws.{rule-room, rule-word}
-use mathlib.Core.List.{[], _∷_}
-use mathlib.Core.Path.{refl}
-use native.Mathlib.Omega.{arith}
+use Rattle.tables.proofs.SourceLaws.{passing}
 use borrow.Author.Needs.{needs}
 use Rattle.tables.proofs.tokens.rule_into.Statement.{statement}
 use Rattle.tables.proofs.tokens.rule_into.Tie as tie
@@ -10,23 +7,28 @@ use Rattle.tables.proofs.tokens.rule_into.Tie as tie
 rule-book-requires : tie.Need-rule-book-requires
 rule-book-requires c κs = search needs
 
-slice-aggregate-passed : tie.Need-slice-aggregate-passed
-slice-aggregate-passed c = search needs
+slice-aggregate-expand-once : tie.Need-slice-aggregate-expand-once
+slice-aggregate-expand-once c = search needs
 
-passed-requires : tie.Need-passed-requires
-passed-requires c κs = let start = c .before .before .before .before .before in rule-room (start .args .text .now) (start .args .lines) (start .pre .0) (c .before .before .rule-book .ensures) (start .args .letter ∷ []) (omega (arith, start .pre .1))
+expand-once-requires : tie.Need-expand-once-requires
+expand-once-requires c κs = search needs
+
+count-requires : tie.Need-count-requires
+count-requires c κs = search needs
 
 same-length : tie.Need-same-length
 same-length c = search needs
 
 returns : tie.Need-returns
-returns c =
-    let at-passed = c .before .before in
-    let at-rule-book = at-passed .before .before .before in
-    let start = at-rule-book .before .before .before in
-    (rule-word (start .args .text .now) (start .args .lines) (start .pre .0) (at-rule-book .rule-book .ensures) (start .args .letter ∷ []) (at-passed .passed .result) (at-passed .passed .last .1 .1 .1 .0) (at-passed .passed .ensures .0) refl, at-passed .passed .ensures .1)
+returns c = search (needs, passing)
 
 pub rule-into-spec : {M : Type 1} → statement M
 rule-into-spec =
     tie.close
-    (tie.spec rule-book-requires slice-aggregate-passed passed-requires same-length returns)
+    (tie.spec
+    rule-book-requires
+    slice-aggregate-expand-once
+    expand-once-requires
+    count-requires
+    same-length
+    returns)

@@ -1,6 +1,6 @@
 -- `tokens::source_of` has the capitals and then the small letters.
 use Rattle.tables.proofs.SourceLaws.{tokens-are}
-use Rattle.tables.specs.Sources.{listedFrom}
+use Rattle.tables.specs.Inside.Sources.{listedFrom}
 use mathlib.Core.List.{_++_}
 use mathlib.Core.Path.{_∙_, ap}
 use native.Mathlib.Omega.{arith}

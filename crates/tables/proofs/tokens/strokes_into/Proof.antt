@@ -1,6 +1,5 @@
 -- `tokens::strokes_into` is a pass of the rules over the one letter, and one of the draws.
-use Rattle.tables.proofs.SourceLaws.{strokes-room, strokes-are}
-use native.Mathlib.Omega.{arith}
+use Rattle.tables.proofs.SourceLaws.{passing}
 use borrow.Author.Needs.{needs}
 use Rattle.tables.proofs.tokens.strokes_into.Statement.{statement}
 use Rattle.tables.proofs.tokens.strokes_into.Tie as tie
@@ -14,31 +13,26 @@ rule-into-requires c κs = search needs
 draw-book-requires : tie.Need-draw-book-requires
 draw-book-requires c κs = search needs
 
-sub-passed : tie.Need-sub-passed
-sub-passed c = search needs
+sub-expand-once : tie.Need-sub-expand-once
+sub-expand-once c = search needs
 
-part-passed-start : tie.Need-part-passed-start
-part-passed-start c = search needs
+part-expand-once-start : tie.Need-part-expand-once-start
+part-expand-once-start c = search needs
 
-part-passed-end : tie.Need-part-passed-end
-part-passed-end c = search needs
+part-expand-once-end : tie.Need-part-expand-once-end
+part-expand-once-end c = search needs
 
-passed-requires : tie.Need-passed-requires
-passed-requires c κs =
-    let at-rule = c .before .before .before .before .before in
-    let start = at-rule .before .before .before .before in
-    strokes-room (start .args .text .now) (start .args .lines) (start .pre .0) (start .args .letter) (c .before .before .before .draw-book .ensures) (at-rule .rule-into .result) (at-rule .rule-into .last .1 .1 .1 .0) (at-rule .rule-into .ensures .0) (start .pre .1)
+expand-once-requires : tie.Need-expand-once-requires
+expand-once-requires c κs = search needs
+
+count-requires : tie.Need-count-requires
+count-requires c κs = search needs
 
 same-length : tie.Need-same-length
 same-length c = search needs
 
 returns : tie.Need-returns
-returns c =
-    let at-passed = c .before .before in
-    let at-draw = at-passed .before .before .before .before in
-    let at-rule = at-draw .before .before in
-    let start = at-rule .before .before .before .before in
-    (strokes-are (start .args .text .now) (start .args .lines) (start .pre .0) (start .args .letter) (at-draw .draw-book .ensures) (at-rule .rule-into .result) (at-rule .rule-into .last .1 .1 .1 .0) (at-rule .rule-into .ensures .0) (at-passed .passed .ensures .0), at-passed .passed .ensures .1)
+returns c = search (needs, passing)
 
 pub strokes-into-spec : {M : Type 1} → statement M
 strokes-into-spec =
@@ -47,9 +41,10 @@ strokes-into-spec =
     slice-aggregate-rule-into
     rule-into-requires
     draw-book-requires
-    sub-passed
-    part-passed-start
-    part-passed-end
-    passed-requires
+    sub-expand-once
+    part-expand-once-start
+    part-expand-once-end
+    expand-once-requires
+    count-requires
     same-length
     returns)

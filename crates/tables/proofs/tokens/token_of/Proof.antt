@@ -1,17 +1,17 @@
 -- `tokens::token_of` finds the letter's place: none of those passed is the letter.
 use borrow.Author.Needs.{needs}
 use Rattle.tables.proofs.SourceLaws.{place-here, place-next, place-end}
-use Rattle.tables.specs.Sources.{lettersIn}
-use Rattle.grammar.specs.Curves.{place}
+use Rattle.tables.specs.Inside.Sources.{lettersIn}
+use Rattle.grammar.specs.Curves.{placeIn}
 use lib.ListN.{length, take, drop}
 use native.Mathlib.Omega.{arith}
 use Prim.Native.Nat.{_-_, _+_, _≤_}
-use mathlib.Core.Path.{_≡_, refl, sym, _∙_}
+use mathlib.Core.Path.{_≡_, sym, _∙_}
 use Rattle.tables.proofs.tokens.token_of.Statement.{statement}
 use Rattle.tables.proofs.tokens.token_of.Tie as tie
 
 abbrev Inv-loop : tie.InvT-loop
-Inv-loop b bytes count i₀ i = (i + place (drop i (take count bytes)) b ≡ place (take count bytes) b) × (count ≤ length bytes) × (count ≤ 52)
+Inv-loop b bytes count i₀ i = (i + placeIn (drop i (take count bytes)) b ≡ placeIn (take count bytes) b) × (count ≤ length bytes) × (count ≤ 52)
 
 abbrev μ-loop : tie.MeasureT-loop
 μ-loop b bytes count i₀ i = count - i

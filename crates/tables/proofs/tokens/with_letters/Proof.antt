@@ -1,7 +1,6 @@
 -- `tokens::with_letters` goes over 26 bytes, and keeps those that are letters of listed motifs.
 use Rattle.tables.proofs.SourceLaws.{Listing, listing-start, listing-room, listing-next, listing-end}
-use Rattle.tables.specs.Sources.{Holds}
-use borrow.Author.Needs.{needs}
+use Rattle.tables.specs.Inside.Sources.{Holds}
 use native.Mathlib.Omega.{arith}
 use Prim.Native.Nat.{_-_, _+_, _≤_}
 use Rattle.tables.proofs.tokens.with_letters.Statement.{statement}

@@ -1,7 +1,6 @@
 -- `tokens::with_token` puts the byte behind the tokens so far.
 use mathlib.Core.Path.{refl}
 use native.Mathlib.Omega.{arith}
-use borrow.Author.Needs.{needs}
 use Rattle.tables.proofs.SourceLaws.{token-more}
 use Rattle.tables.proofs.tokens.with_token.Statement.{statement}
 use Rattle.tables.proofs.tokens.with_token.Tie as tie

@@ -13,8 +13,8 @@ returns c = search (needs, triple-far)
 candidate-requires : tie.Need-candidate-requires
 candidate-requires c κs = search (needs, near-flag)
 
-has-requires : tie.Need-has-requires
-has-requires c κs = search needs
+has-corner-sum-requires : tie.Need-has-corner-sum-requires
+has-corner-sum-requires c κs = search needs
 
 narrowed-requires : tie.Need-narrowed-requires
 narrowed-requires c κs = search (needs, has-narrow)
@@ -25,8 +25,8 @@ returns-2 c = search (needs, triple-even)
 candidate-requires-2 : tie.Need-candidate-requires-2
 candidate-requires-2 c κs = search (needs, near-flag)
 
-has-requires-2 : tie.Need-has-requires-2
-has-requires-2 c κs = search needs
+has-corner-sum-requires-2 : tie.Need-has-corner-sum-requires-2
+has-corner-sum-requires-2 c κs = search needs
 
 narrowed-requires-2 : tie.Need-narrowed-requires-2
 narrowed-requires-2 c κs = search (needs, has-narrow)
@@ -40,4 +40,4 @@ returns-4 c = search (needs, triple-none)
 pub to-triple-spec : {M : Type 1} → statement M
 to-triple-spec =
     tie.close
-    (tie.spec is-far-requires returns candidate-requires has-requires narrowed-requires returns-2 candidate-requires-2 has-requires-2 narrowed-requires-2 returns-3 returns-4)
+    (tie.spec is-far-requires returns candidate-requires has-corner-sum-requires narrowed-requires returns-2 candidate-requires-2 has-corner-sum-requires-2 narrowed-requires-2 returns-3 returns-4)

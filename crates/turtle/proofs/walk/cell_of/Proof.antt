@@ -1,7 +1,7 @@
 -- `walk::cell_of` is `cell`: the sum of the corners, which have room since the stroke is small and its start near, and the flavor.
 use borrow.Author.Needs.{needs}
 use mathlib.Core.Path.{sym, subst}
-use Rattle.turtle.specs.Sizes.{Roomy}
+use Rattle.turtle.specs.Inside.Sizes.{Roomy}
 use Rattle.turtle.proofs.WalkLaws.{corners-roomy, cell-at}
 use Rattle.turtle.proofs.walk.cell_of.Statement.{statement}
 use Rattle.turtle.proofs.walk.cell_of.Tie as tie

@@ -4,7 +4,7 @@ use Prim.Native.Nat.{_≤_, _-_}
 use native.Mathlib.Omega.{arith}
 use native.Mathlib.Numerals.{add-one}
 use Rattle.turtle.specs.Plane.{rot, rots}
-use Rattle.turtle.specs.Sizes.{Short}
+use Rattle.turtle.specs.Inside.Sizes.{Short}
 use Rattle.turtle.proofs.WalkLaws.{rots-small}
 use Rattle.turtle.proofs.walk.rot_times.Statement.{statement}
 use Rattle.turtle.proofs.walk.rot_times.Tie as tie

@@ -1,4 +1,4 @@
--- The place stays within the buffer, whose length no byte changes.
+-- The slice keeps its length, and each turn leaves one byte less.
 use mathlib.Core.Path.{_≡_}
 use Prim.Native.Nat.{_-_, _≤_}
 use lib.ListN.{length}
@@ -7,7 +7,7 @@ use Rattle.vectors.proofs.ask.put_bytes.Statement.{statement}
 use Rattle.vectors.proofs.ask.put_bytes.Tie as tie
 
 abbrev Inv-loop : tie.InvT-loop
-Inv-loop out₀ bytes n e₀ i₀ out e i = (length out ≡ length out₀) × ((e ≤ length out) × (i ≤ length bytes))
+Inv-loop out₀ bytes n e₀ i₀ out e i = (length out ≡ length out₀) × (i ≤ length bytes)
 
 abbrev μ-loop : tie.MeasureT-loop
 μ-loop out₀ bytes n e₀ i₀ out e i = length bytes - i
@@ -19,13 +19,13 @@ same-length : tie.Need-same-length Inv-loop μ-loop
 same-length c = search needs
 
 returns : tie.Need-returns Inv-loop μ-loop
-returns c = search needs
+returns c = tt
 
 shared-slice-read-put-byte : tie.Need-shared-slice-read-put-byte Inv-loop μ-loop
 shared-slice-read-put-byte c = search needs
 
 put-byte-requires : tie.Need-put-byte-requires Inv-loop μ-loop
-put-byte-requires c κs = search needs
+put-byte-requires c κs = tt
 
 add-i : tie.Need-add-i Inv-loop μ-loop
 add-i c = search needs
@@ -40,7 +40,7 @@ same-length-2 : tie.Need-same-length-2 Inv-loop μ-loop
 same-length-2 c = search needs
 
 returns-2 : tie.Need-returns-2 Inv-loop μ-loop
-returns-2 c = search needs
+returns-2 c = tt
 
 pub put-bytes-spec : {M : Type 1} → statement M
 put-bytes-spec =

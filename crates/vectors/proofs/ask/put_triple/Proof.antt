@@ -14,19 +14,19 @@ cast-z : tie.Need-cast-z
 cast-z c = fits (search seen) tt
 
 put-integer-requires : tie.Need-put-integer-requires
-put-integer-requires c κs = search needs
+put-integer-requires c κs = tt
 
 put-next-integer-requires : tie.Need-put-next-integer-requires
-put-next-integer-requires c κs = search needs
+put-next-integer-requires c κs = tt
 
 put-next-integer-requires-2 : tie.Need-put-next-integer-requires-2
-put-next-integer-requires-2 c κs = search needs
+put-next-integer-requires-2 c κs = tt
 
 same-length : tie.Need-same-length
 same-length c = search needs
 
 returns : tie.Need-returns
-returns c = search needs
+returns c = tt
 
 pub put-triple-spec : {M : Type 1} → statement M
 put-triple-spec =

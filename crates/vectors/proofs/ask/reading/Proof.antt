@@ -24,23 +24,8 @@ read-requires c κs = search needs
 enum-known-answer : tie.Need-enum-known-answer
 enum-known-answer c = search needs
 
-cast-put-natural : tie.Need-cast-put-natural
-cast-put-natural c = search needs
-
-put-natural-requires : tie.Need-put-natural-requires
-put-natural-requires c κs = search needs
-
-cast-put-next-natural : tie.Need-cast-put-next-natural
-cast-put-next-natural c = search needs
-
-put-next-natural-requires : tie.Need-put-next-natural-requires
-put-next-natural-requires c κs = search needs
-
-put-next-natural-requires-2 : tie.Need-put-next-natural-requires-2
-put-next-natural-requires-2 c κs = search needs
-
-put-next-natural-requires-3 : tie.Need-put-next-natural-requires-3
-put-next-natural-requires-3 c κs = search needs
+put-reading-requires : tie.Need-put-reading-requires
+put-reading-requires c κs = search needs
 
 enum-known-answer-2 : tie.Need-enum-known-answer-2
 enum-known-answer-2 c = search needs
@@ -70,12 +55,7 @@ reading-spec =
     slice-aggregate-read
     read-requires
     enum-known-answer
-    cast-put-natural
-    put-natural-requires
-    cast-put-next-natural
-    put-next-natural-requires
-    put-next-natural-requires-2
-    put-next-natural-requires-3
+    put-reading-requires
     enum-known-answer-2
     refused-requires
     same-length

@@ -2,7 +2,8 @@
 use borrow.Author.Needs.{needs}
 use mathlib.Core.Path.{sym, _∙_}
 use Rattle.turtle.proofs.LetterLaws.{stroke-small}
-use Rattle.turtle.proofs.WalkLaws.{near-of, corners-lost, corners-none, corners-at}
+use Rattle.turtle.proofs.LimitLaws.{near-of}
+use Rattle.turtle.proofs.WalkLaws.{corners-lost, corners-none, corners-at}
 use Rattle.turtle.proofs.walk.Turtle.corners.Statement.{statement}
 use Rattle.turtle.proofs.walk.Turtle.corners.Tie as tie
 

@@ -2,7 +2,8 @@
 use borrow.Author.Needs.{needs}
 use mathlib.Core.Path.{sym, _∙_}
 use Rattle.turtle.proofs.LetterLaws.{stroke-small}
-use Rattle.turtle.proofs.WalkLaws.{near-of, step-lost, step-left, step-right, step-none, step-drew}
+use Rattle.turtle.proofs.LimitLaws.{near-of}
+use Rattle.turtle.proofs.WalkLaws.{step-lost, step-left, step-right, step-none, step-drew}
 use Rattle.turtle.proofs.walk.Turtle.step.Statement.{statement}
 use Rattle.turtle.proofs.walk.Turtle.step.Tie as tie
 

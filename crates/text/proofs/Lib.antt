@@ -1,0 +1,9 @@
+pub mod WordLaws
+pub mod NumberLaws
+pub mod PatternLaws
+pub mod PlaceLaws
+pub mod DecimalLaws
+pub mod DigitLaws
+pub mod PutLaws
+pub mod ReadBack
+pub mod Determined

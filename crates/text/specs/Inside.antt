@@ -1,0 +1,3 @@
+-- What the contracts of private functions need.
+pub mod Reading
+pub mod Putting
