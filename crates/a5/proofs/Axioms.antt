@@ -4,7 +4,7 @@ use mathlib.Core.Bool.{true}
 use Prim.Native.Nat.{ℕ, suc, _+_, _-_, _*_, _^_, _<_, _≤_}
 use native.Mathlib.Omega.{arith}
 use lib.IntN.{ℤ, pos, negℤ, _+ℤ_, _-ℤ_}
-use Rattle.whole.proofs.Parts.{up, dn, up-dn}
+use Rattle.whole.proofs.Parts.{up, dn, up-dn, abs-parts}
 use Rattle.whole.proofs.View.{view, v-pos, v-add, v-neg, v-var, parts-of, eq-by, le-by, le-of}
 use Rattle.whole.proofs.Digits.{two-power, twice-power}
 use Rattle.whole.proofs.TestLaws.{true-pass, pass-true}
@@ -17,10 +17,10 @@ use Rattle.turtle.proofs.PlaneLaws.{⊕-comm, ⊕-idr, neg-origin}
 use Rattle.turtle.proofs.ScaleLaws.{doubled-a, doubled-b}
 use Rattle.turtle.proofs.CornerLaws.{pair-is, triple-is, good-true}
 use Rattle.a5.specs.Lookup.{_⊖_}
-use Rattle.a5.proofs.Footprints.{before-x, before-y, before-g, lack, wide-x, wide-y, wide-g, base}
-use Rattle.a5.proofs.Spots.{Spot, spot, In}
+use Rattle.a5.specs.Inside.Footprints.{before-x, before-y, before-g, skew, wide-x, wide-y, wide-g}
+use Rattle.a5.specs.Inside.Spots.{Spot, spot, In, tripleAt, spotAt}
+use Rattle.a5.proofs.Places.{base, spotSum, place}
 use Rattle.a5.proofs.FootprintLaws.{spot-is}
-use Rattle.a5.proofs.Places.{spotSum, place}
 
 -- ---- differences of corner pairs
 ⊖-left-part : (a b : ℤ) → (a +ℤ b) +ℤ negℤ a ≡ b
@@ -62,26 +62,19 @@ drawn axiomA r t = t
 drawn axiomC r t = t
 drawn axiomB r t = record { x = t .x +ℤ pos (2 ^ r); y = t .y -ℤ pos (2 ^ r); z = t .z }
 
--- the triple of a spot at the scale 2 ^ n, and back
-unfoldable pub tripleAt : ℕ → Spot → Triple
-tripleAt n p = record { x = pos (p .x + 1) -ℤ pos (2 * 2 ^ n); y = pos (p .y); z = negℤ (pos (p .g)) }
-
-unfoldable pub spotAt : ℕ → Triple → Spot
-spotAt n t = spot (2 * 2 ^ n - suc (dn (t .x))) (up (t .y)) (dn (t .z))
-
 -- ---- the footprint, in numbers: what `In` says of an axiom
 pub record Shape (k : ℕ) : Type 0 where
   pub is-state : k < 28
   pub shape-x : wide-x k ≡ 2
   pub shape-y : wide-y k ≡ 2
   pub shape-g : wide-g k ≡ 2
-  pub shape-lack : lack k ≡ 2
+  pub shape-skew : skew k ≡ 2
 
 pub shape : (x : Axiom) → Shape (first x)
-unfolding wide-x wide-y wide-g lack before-x before-y before-g
-shape axiomA = record { is-state = omega arith; shape-x = refl; shape-y = refl; shape-g = refl; shape-lack = refl }
-shape axiomC = record { is-state = omega arith; shape-x = refl; shape-y = refl; shape-g = refl; shape-lack = refl }
-shape axiomB = record { is-state = omega arith; shape-x = refl; shape-y = refl; shape-g = refl; shape-lack = refl }
+unfolding wide-x wide-y wide-g skew before-x before-y before-g
+shape axiomA = record { is-state = omega arith; shape-x = refl; shape-y = refl; shape-g = refl; shape-skew = refl }
+shape axiomC = record { is-state = omega arith; shape-x = refl; shape-y = refl; shape-g = refl; shape-skew = refl }
+shape axiomB = record { is-state = omega arith; shape-x = refl; shape-y = refl; shape-g = refl; shape-skew = refl }
 
 pub record Wedge (n : ℕ) (p : Spot) : Type 0 where
   pub wedge-x : p .x < 2 * n
@@ -97,8 +90,8 @@ in-wedge x n p i =
       wedge-x = rw (s .shape-x) at (i .in-x);
       wedge-y = rw (s .shape-y) at (i .in-y);
       wedge-g = rw (s .shape-g) at (i .in-g);
-      wedge-low = rw (s .shape-lack) at (i .low);
-      wedge-high = rw (s .shape-lack) at (i .high);
+      wedge-low = rw (s .shape-skew) at (i .low);
+      wedge-high = rw (s .shape-skew) at (i .high);
     }
 
 pub wedge-in : (x : Axiom) (n : ℕ) (p : Spot) → Wedge n p → In n (first x) p
@@ -108,8 +101,8 @@ wedge-in x n p w =
       in-x = rw (s .shape-x) (w .wedge-x);
       in-y = rw (s .shape-y) (w .wedge-y);
       in-g = rw (s .shape-g) (w .wedge-g);
-      low = rw (s .shape-lack) (w .wedge-low);
-      high = rw (s .shape-lack) (w .wedge-high);
+      low = rw (s .shape-skew) (w .wedge-low);
+      high = rw (s .shape-skew) (w .wedge-high);
     }
 
 -- ---- spots and triples
@@ -174,12 +167,18 @@ module _ (n : ℕ) (t : Triple) (b : inBounds (suc n) t ≡ true) where
   unfolding spotAt
   bounds-wedge =
       let s = signs in
+      let ex = abs-parts (t .x) in
+      let ey = abs-parts (t .y) in
+      let ez = abs-parts (t .z) in
       record { wedge-x = omega (arith, two-power n); wedge-y = omega arith; wedge-g = omega arith; wedge-low = omega arith; wedge-high = omega arith }
 
   pub triple-spot : tripleAt n (spotAt n t) ≡ t
   unfolding tripleAt spotAt
   triple-spot =
       let s = signs in
+      let ex = abs-parts (t .x) in
+      let ey = abs-parts (t .y) in
+      let ez = abs-parts (t .z) in
       let vx = v-var (t .x) in
       let vy = v-var (t .y) in
       let vz = v-var (t .z) in
@@ -188,21 +187,21 @@ module _ (n : ℕ) (t : Triple) (b : inBounds (suc n) t ≡ true) where
 pub spot-triple : (n : ℕ) (p : Spot) → Wedge (2 ^ n) p → spotAt n (tripleAt n p) ≡ p
 unfolding tripleAt spotAt
 spot-triple n p w =
-    let ex = parts-of (v-add (v-pos (p .x + 1)) (v-neg (v-pos (2 * 2 ^ n)))) tt .1 in
-    let ey = parts-of (v-pos (p .y)) tt .0 in
-    let ez = parts-of (v-neg (v-pos (p .g))) tt .1 in
-    spot-is (omega arith) (omega arith) (omega arith)
+    let x = pos (p .x + 1) -ℤ pos (2 * 2 ^ n) in
+    let ex = parts-of (v-add (v-pos (p .x + 1)) (v-neg (v-pos (2 * 2 ^ n)))) tt in
+    let ez = parts-of (v-neg (v-pos (p .g))) tt in
+    spot-is (omega (arith, abs-parts x, ex .0, ex .1)) refl (omega (arith, abs-parts (negℤ (pos (p .g))), ez .0, ez .1))
 
 -- ---- their corner sums
 module _ (n : ℕ) (p : Spot) where
   corner-a : (x : Axiom) → cornerSum (tripleAt n p) .a ≡ spotSum p .a +ℤ doubled n (base (first x)) .a +ℤ shift x (suc n) .a
-  unfolding cornerSum tripleAt spotSum base lack before-x before-y before-g origin
+  unfolding cornerSum tripleAt spotSum base skew before-x before-y before-g origin
   corner-a axiomA = rw (doubled-a n (base 0)) (eq-by (search view depth 12) (search view depth 12) tt (omega arith))
   corner-a axiomC = rw (doubled-a n (base 4)) (eq-by (search view depth 12) (search view depth 12) tt (omega arith))
   corner-a axiomB = rw (doubled-a n (base 2), twice-power n) (eq-by (search view depth 12) (search view depth 12) tt (omega arith))
 
   corner-b : (x : Axiom) → cornerSum (tripleAt n p) .b ≡ spotSum p .b +ℤ doubled n (base (first x)) .b +ℤ shift x (suc n) .b
-  unfolding cornerSum tripleAt spotSum base lack before-x before-y before-g origin
+  unfolding cornerSum tripleAt spotSum base skew before-x before-y before-g origin
   corner-b axiomA = rw (doubled-b n (base 0)) (eq-by (search view depth 12) (search view depth 12) tt (omega arith))
   corner-b axiomC = rw (doubled-b n (base 4)) (eq-by (search view depth 12) (search view depth 12) tt (omega arith))
   corner-b axiomB = rw (doubled-b n (base 2), twice-power n) (eq-by (search view depth 12) (search view depth 12) tt (omega arith))

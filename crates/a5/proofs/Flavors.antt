@@ -14,12 +14,11 @@ use Rattle.triple.specs.Triples.{sumOf, colorOf, closedFlavor}
 use Rattle.tables.specs.Descent.{entry}
 use Rattle.a5.specs.A5Table.{a5Table}
 use Rattle.a5.specs.Lookup.{childState}
-use Rattle.a5.proofs.Footprints.{before-x, before-y, before-g, lack, begins, at-y, leaf-x, leaf-y, leaf-g, leafFlavor}
-use Rattle.a5.proofs.Spots.{Spot, HasParity, parity, moved, leaf, walk}
+use Rattle.a5.specs.Inside.Footprints.{before-x, before-y, before-g, skew, begins, at-y, leaf-x, leaf-y, leaf-g, leafFlavor}
+use Rattle.a5.specs.Inside.Spots.{Spot, HasParity, parity, moved, leaf, walk, walkFlavor, tripleAt}
+use Rattle.a5.proofs.Axioms.{Axiom, axiomA, axiomC, axiomB, first, shape}
 use Rattle.a5.proofs.FootprintChecks.{down}
 use Rattle.a5.proofs.FootprintLaws.{walk-in, parity-is}
-use Rattle.a5.proofs.Places.{walkFlavor}
-use Rattle.a5.proofs.Axioms.{Axiom, axiomA, axiomC, axiomB, first, tripleAt, shape}
 
 -- whether the leaves turn the second bit, as the first one does
 unfoldable odd : ℕ → ℕ
@@ -31,7 +30,7 @@ Turned k d =
     ∷ eq (leafFlavor k d) (parity 1 k (leaf k d) + 2 * ((leaf-y k d + parity 1 k (leaf k d) + odd k) % 2)) ∷ []
 
 turned-all : T (all 28 4 Turned)
-unfolding all below odd begins at-y before-x before-y before-g lack leaf leaf-x leaf-y leaf-g leafFlavor entry a5Table
+unfolding all below odd begins at-y before-x before-y before-g skew leaf leaf-x leaf-y leaf-g leafFlavor entry a5Table
 turned-all = tt
 
 turned : (k d : ℕ) → k < 28 → d < 4 → Hold (Turned k d)
@@ -69,6 +68,14 @@ flavor-walk (suc (suc n)) k s q h e =
     let m : (c .y + q + 0) % 2 ≡ (c .y + at-y k d * 2 ^ suc n + q + 0) % 2 = even (c .y) q (at-y k d) (2 ^ n) ∙ ap (λ m. (c .y + at-y k d * m + q + 0) % 2) (sym (twice-power n)) in
     flavor-walk (suc n) (childState k d) s q (down k d h l .0) (parity-down (2 ^ suc n) k d c q h l (subst (λ m. HasParity m k (moved (2 ^ suc n) k d c) q) (twice-power (suc n)) e)) ∙ ap (λ m. q + 2 * m) m
 
+-- its first bit is the parity
+pub flavor-parity : (n k s : ℕ) → k < 28 → HasParity (2 ^ n) k (walk n k s) (walkFlavor n k s % 2)
+flavor-parity n k s h =
+    let p = parity-is (2 ^ n) k (walk n k s) (walk-in n k s h) in
+    let f = flavor-walk n k s (parity (2 ^ n) k (walk n k s)) h (p .0) in
+    let e : parity (2 ^ n) k (walk n k s) ≡ walkFlavor n k s % 2 = omega (arith, f, p .1) in
+    subst (HasParity (2 ^ n) k (walk n k s)) e (p .0)
+
 -- ---- the closed formula of a spot's triple
 size-odd : {z : ℤ} (v : View z) → T (v .ok) → natAbs z % 2 ≡ (v .p + v .n) % 2
 size-odd {z} v t = let e = v .is t .0 in rw (abs-parts z) (omega arith)
@@ -102,4 +109,4 @@ flavor-closed x n s =
     let p = walk n k s in
     let q = parity (2 ^ n) k p in
     let e = parity-is (2 ^ n) k p (walk-in n k s h) .0 in
-    flavor-walk n k s q h e ∙ ap (λ t. q + 2 * ((p .y + q + t) % 2)) (turn-first x n) ∙ closed n p q (subst (λ m. q + (p .g + m * 2 ^ n) ≡ p .x + p .y + 1) (shape x .shape-lack) e)
+    flavor-walk n k s q h e ∙ ap (λ t. q + 2 * ((p .y + q + t) % 2)) (turn-first x n) ∙ closed n p q (subst (λ m. q + (p .g + m * 2 ^ n) ≡ p .x + p .y + 1) (shape x .shape-skew) e)

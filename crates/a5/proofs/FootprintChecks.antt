@@ -10,8 +10,9 @@ use Rattle.whole.proofs.Claims.{Claim, lt, le, eq, pass, Hold, hold, passed, be
 use Rattle.tables.specs.Descent.{entry}
 use Rattle.a5.specs.A5Table.{a5Table}
 use Rattle.a5.specs.Lookup.{childState, choice}
-use Rattle.a5.proofs.Footprints.{before-x, before-y, before-g, lack, wide-x, wide-y, wide-g, begins, at-x, at-y, at-g, leaf-x, leaf-y, leaf-g, axis, slope, upward, before, threshold}
-use Rattle.a5.proofs.Spots.{Spot, spot, leaf, seen, bitAt, pick, same, leafOf}
+use Rattle.a5.specs.Inside.Footprints.{before-x, before-y, before-g, skew, wide-x, wide-y, wide-g, begins, at-x, at-y, at-g, leaf-x, leaf-y, leaf-g}
+use Rattle.a5.specs.Inside.Spots.{Spot, spot, leaf}
+use Rattle.a5.proofs.Finds.{axis, slope, upward, before, threshold, seen, bitAt, pick, same, leafOf}
 
 -- ---- a child's footprint lies in its parent's
 abbrev pub Down : ℕ → ℕ → List Claim
@@ -20,10 +21,10 @@ Down k d =
     ∷ le (at-x k d + wide-x (childState k d)) (2 * wide-x k)
     ∷ le (at-y k d + wide-y (childState k d)) (2 * wide-y k)
     ∷ le (at-g k d + wide-g (childState k d)) (2 * wide-g k)
-    ∷ eq (at-g k d + 2 * lack k) (at-x k d + at-y k d + lack (childState k d)) ∷ []
+    ∷ eq (at-g k d + 2 * skew k) (at-x k d + at-y k d + skew (childState k d)) ∷ []
 
 down-all : T (all 28 4 Down)
-unfolding all below before-x before-y before-g lack wide-x wide-y wide-g begins at-x at-y at-g entry a5Table
+unfolding all below before-x before-y before-g skew wide-x wide-y wide-g begins at-x at-y at-g entry a5Table
 down-all = tt
 
 pub down : (k d : ℕ) → k < 28 → d < 4 → Hold (Down k d)
@@ -31,7 +32,7 @@ down = each 28 4 Down down-all
 
 -- ---- what holds of every triangle of k's footprint, where k is of the scale c
 abbrev pub Triangle : ℕ → ℕ → Spot → List Claim
-Triangle c k p = le (p .x + p .y) (p .g + c * lack k) ∷ le (p .g + c * lack k) (p .x + p .y + 1) ∷ []
+Triangle c k p = le (p .x + p .y) (p .g + c * skew k) ∷ le (p .g + c * skew k) (p .x + p .y + 1) ∷ []
 
 abbrev pub Ends : ℕ → ℕ → Spot → List Claim
 Ends c k p = lt (p .x) (c * wide-x k) ∷ lt (p .y) (c * wide-y k) ∷ lt (p .g) (c * wide-g k) ∷ []
@@ -64,7 +65,7 @@ unfoldable pickTest : ℕ → Spot → Bool
 pickTest k p = pass (Picked k p) && below 4 (other k p)
 
 pick-all : T (below 28 (λ k. over 2 k (pickTest k)))
-unfolding below over implies pickTest pick bitAt seen before-x before-y before-g lack wide-x wide-y wide-g begins at-x at-y at-g axis slope upward before threshold choice entry a5Table
+unfolding below over implies pickTest pick bitAt seen before-x before-y before-g skew wide-x wide-y wide-g begins at-x at-y at-g axis slope upward before threshold choice entry a5Table
 pick-all = tt
 
 module _ (k : ℕ) (h : k < 28) (p : Spot) (e : Hold (Ends 2 k p)) (t : Hold (Triangle 2 k p)) where
@@ -85,7 +86,7 @@ abbrev pub Leaf : ℕ → Spot → List Claim
 Leaf k p = lt (leafOf k p) 4 ∷ eq (p .x) (leaf-x k (leafOf k p)) ∷ eq (p .y) (leaf-y k (leafOf k p)) ∷ eq (p .g) (leaf-g k (leafOf k p)) ∷ []
 
 leaf-all : T (below 28 (λ k. over 1 k (λ p. pass (Leaf k p))))
-unfolding below over implies leafOf same leaf before-x before-y before-g lack wide-x wide-y wide-g leaf-x leaf-y leaf-g entry a5Table
+unfolding below over implies leafOf same leaf before-x before-y before-g skew wide-x wide-y wide-g leaf-x leaf-y leaf-g entry a5Table
 leaf-all = tt
 
 pub leaf-at : (k : ℕ) → k < 28 → (p : Spot) → Hold (Ends 1 k p) → Hold (Triangle 1 k p) → Hold (Leaf k p)
@@ -93,10 +94,10 @@ leaf-at k h p e t = hold (Leaf k p) (over-at 1 k (λ p. pass (Leaf k p)) (at 28 
 
 abbrev pub Own : ℕ → ℕ → List Claim
 Own k d = eq (leafOf k (leaf k d)) d ∷ lt (leaf-x k d) (wide-x k) ∷ lt (leaf-y k d) (wide-y k) ∷ lt (leaf-g k d) (wide-g k)
-    ∷ le (leaf-x k d + leaf-y k d) (leaf-g k d + lack k) ∷ le (leaf-g k d + lack k) (leaf-x k d + leaf-y k d + 1) ∷ []
+    ∷ le (leaf-x k d + leaf-y k d) (leaf-g k d + skew k) ∷ le (leaf-g k d + skew k) (leaf-x k d + leaf-y k d + 1) ∷ []
 
 own-all : T (all 28 4 Own)
-unfolding all below leafOf same leaf before-x before-y before-g lack wide-x wide-y wide-g leaf-x leaf-y leaf-g entry a5Table
+unfolding all below leafOf same leaf before-x before-y before-g skew wide-x wide-y wide-g leaf-x leaf-y leaf-g entry a5Table
 own-all = tt
 
 pub own : (k d : ℕ) → k < 28 → d < 4 → Hold (Own k d)

@@ -7,8 +7,9 @@ use native.Mathlib.Nat as N
 use Rattle.whole.proofs.Digits.{two-power, four-power, twice-power, four-times-power, one-digit-more, digit-low, digit-top, digit-and-rest, digit-below}
 use Rattle.whole.proofs.Claims.{Hold}
 use Rattle.a5.specs.Lookup.{childState}
-use Rattle.a5.proofs.Footprints.{lack, wide-x, wide-y, wide-g, at-x, at-y, at-g}
-use Rattle.a5.proofs.Spots.{Spot, spot, In, parity, HasParity, moved, back, leaf, walk, coarse, pick, leafOf, find}
+use Rattle.a5.specs.Inside.Footprints.{skew, wide-x, wide-y, wide-g, at-x, at-y, at-g}
+use Rattle.a5.specs.Inside.Spots.{Spot, spot, In, parity, HasParity, moved, leaf, walk}
+use Rattle.a5.proofs.Finds.{back, coarse, pick, leafOf, find}
 use Rattle.a5.proofs.FootprintChecks.{down, Within, Triangle, Ends, pick-in, pick-only, leaf-at, own}
 
 pub spot-is : {p q : Spot} → p .x ≡ q .x → p .y ≡ q .y → p .g ≡ q .g → p ≡ q
@@ -59,9 +60,9 @@ module _ (c n k : ℕ) (z : 0 < n) (p : Spot) (i : In (c * n) k p) where
       let y1 = quotient-high n (p .y) z in
       let g0 = quotient-low n (p .g) in
       let g1 = quotient-high n (p .g) z in
-      let e = finer (lack k) in (
-        whole-multiples n (p .x / n + p .y / n) (p .g / n + c * lack k) (omega (arith, i .low)),
-        (whole-multiples n (p .g / n + c * lack k) (p .x / n + p .y / n + 1) (omega (arith, i .high)), tt),
+      let e = finer (skew k) in (
+        whole-multiples n (p .x / n + p .y / n) (p .g / n + c * skew k) (omega (arith, i .low)),
+        (whole-multiples n (p .g / n + c * skew k) (p .x / n + p .y / n + 1) (omega (arith, i .high)), tt),
       )
 
 -- at the children's scale, and at a footprint's own

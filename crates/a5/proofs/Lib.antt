@@ -1,7 +1,6 @@
 pub mod A5Compiled
 pub mod A5Entries
-pub mod Footprints
-pub mod Spots
+pub mod Finds
 pub mod FootprintChecks
 pub mod FootprintLaws
 pub mod Places

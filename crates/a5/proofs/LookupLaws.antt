@@ -18,12 +18,12 @@ use Rattle.turtle.proofs.PlaneLaws.{⊕-idl, thrice-origin}
 use Rattle.tables.specs.Descent.{entry, offsetAt, sumAt, follow}
 use Rattle.a5.specs.A5Table.{a5Table}
 use Rattle.a5.specs.Lookup.{_⊖_, childState, separatorValue, chosen, matching, seek}
-use Rattle.a5.proofs.Footprints.{base}
-use Rattle.a5.proofs.Spots.{Spot, In, parity, back, coarse, pick, leafOf, find}
+use Rattle.a5.specs.Inside.Spots.{Spot, In, parity, spotAt}
+use Rattle.a5.proofs.Finds.{back, coarse, pick, leafOf, find}
+use Rattle.a5.proofs.Places.{base, spotSum, place, leaf-sum, place-step}
+use Rattle.a5.proofs.Axioms.{⊖-left, ⊖-right, Axiom, first, shift, shape, axiom-in, corner-spot}
 use Rattle.a5.proofs.FootprintChecks.{down, pick-in}
 use Rattle.a5.proofs.FootprintLaws.{parity-is, coarse-ends, coarse-triangle, back-in, moved-back, leaf-found}
-use Rattle.a5.proofs.Places.{spotSum, place, leaf-sum, place-step}
-use Rattle.a5.proofs.Axioms.{⊖-left, ⊖-right, Axiom, first, shift, spotAt, shape, axiom-in, corner-spot}
 use Rattle.a5.proofs.Once.{sumAfter, cellTriple, position, cell-bounds, cell-sum, cell-flavor, position-small, cell-position, position-cell}
 use Rattle.a5.proofs.Separators.{Clear, chosen-pick, value-clear}
 

@@ -15,10 +15,11 @@ use Rattle.turtle.proofs.CornerLaws.{corner-sum-unique}
 use Rattle.tables.specs.Descent.{follow}
 use Rattle.a5.specs.A5Table.{a5Table}
 use Rattle.a5.specs.Lookup.{_⊖_}
-use Rattle.a5.proofs.Spots.{walk, find}
-use Rattle.a5.proofs.FootprintLaws.{walk-in, find-walk, walk-find}
+use Rattle.a5.specs.Inside.Spots.{walk, tripleAt, spotAt}
+use Rattle.a5.proofs.Finds.{find}
 use Rattle.a5.proofs.Places.{place, follow-sum, follow-flavor}
-use Rattle.a5.proofs.Axioms.{⊖-right, Axiom, first, shift, drawn, drawn-corner, tripleAt, spotAt, shape, in-wedge, wedge-bounds, triple-spot, spot-triple, bounds-good, corner-place, axiom-in}
+use Rattle.a5.proofs.Axioms.{⊖-right, Axiom, first, shift, drawn, drawn-corner, shape, in-wedge, wedge-bounds, triple-spot, spot-triple, bounds-good, corner-place, axiom-in}
+use Rattle.a5.proofs.FootprintLaws.{walk-in, find-walk, walk-find}
 use Rattle.a5.proofs.Flavors.{flavor-closed}
 
 module _ (x : Axiom) (n : ℕ) where

@@ -16,9 +16,13 @@ use Rattle.turtle.proofs.CornerLaws.{pair-is}
 use Rattle.tables.specs.Descent.{entry, offsetAt, sumAt, flavorAt, follow}
 use Rattle.a5.specs.A5Table.{a5Table}
 use Rattle.a5.specs.Lookup.{childState}
-use Rattle.a5.proofs.Footprints.{before-x, before-y, before-g, lack, base, begins, at-x, at-y, at-g, leaf-x, leaf-y, leaf-g, leafFlavor}
-use Rattle.a5.proofs.Spots.{Spot, moved, leaf, walk}
+use Rattle.a5.specs.Inside.Footprints.{before-x, before-y, before-g, skew, begins, at-x, at-y, at-g, leaf-x, leaf-y, leaf-g, leafFlavor}
+use Rattle.a5.specs.Inside.Spots.{Spot, moved, leaf, walk, walkFlavor}
 use Rattle.a5.proofs.FootprintChecks.{down}
+
+-- what the footprint's beginning adds to a spot's own corner sum, at the scale 1
+unfoldable pub base : ℕ → AB
+base k = ab (pos (4 * skew k) -ℤ pos (12 * before-y k)) (pos (4 * skew k) -ℤ pos (12 * before-x k))
 
 -- the corner sum of a spot, where the footprint begins at the spot 0, 0, 0
 unfoldable pub spotSum : Spot → AB
@@ -43,7 +47,7 @@ Placed k d =
     (int (flavorAt a5Table k d) (pos (leafFlavor k d)) ∷ []))
 
 placed-all : T (all 28 4 Placed)
-unfolding all below spotSum startSum before-x before-y before-g lack base begins at-x at-y at-g leaf leaf-x leaf-y leaf-g leafFlavor thrice _⊕_ entry a5Table
+unfolding all below spotSum startSum before-x before-y before-g skew base begins at-x at-y at-g leaf leaf-x leaf-y leaf-g leafFlavor thrice _⊕_ entry a5Table
 placed-all = tt
 
 module _ (k d : ℕ) (h : k < 28) (l : d < 4) where
@@ -89,11 +93,6 @@ module _ (n k d : ℕ) (h : k < 28) (l : d < 4) where
   pub place-step : (v : AB) (q : Spot) → thrice (v ⊕ doubled n (offsetAt a5Table k d)) ⊕ place n (childState k d) q ≡ thrice v ⊕ place (suc n) k (moved (2 ^ n) k d q)
   unfolding place doubled
   place-step v q = rw (thrice-⊕, gathered, start-doubled, moved-sum) (spread _ _ _ _)
-
--- the flavor of the cell s
-unfoldable pub walkFlavor : ℕ → ℕ → ℕ → ℕ
-walkFlavor zero k s = leafFlavor k (s % 4)
-walkFlavor (suc n) k s = walkFlavor n (childState k (s / 4 ^ suc n % 4)) s
 
 -- ---- the descent is the walk
 pub follow-sum : (n : ℕ) (v : AB) (k s : ℕ) → k < 28 → follow a5Table n v k s .sum ≡ thrice v ⊕ place n k (walk n k s)

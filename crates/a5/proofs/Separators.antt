@@ -23,9 +23,10 @@ use Rattle.tables.specs.Table.{bit}
 use Rattle.tables.specs.Descent.{entry}
 use Rattle.a5.specs.A5Table.{a5Table}
 use Rattle.a5.specs.Lookup.{factorA, factorB, constant, separatorValue, side, chosen}
-use Rattle.a5.proofs.Footprints.{before-x, before-y, before-g, before, lack, base, axis, slope, upward, threshold}
-use Rattle.a5.proofs.Spots.{Spot, HasParity, coarse, seen, bitAt, pick}
-use Rattle.a5.proofs.Places.{spotSum, place}
+use Rattle.a5.specs.Inside.Footprints.{before-x, before-y, before-g, skew}
+use Rattle.a5.specs.Inside.Spots.{Spot, HasParity}
+use Rattle.a5.proofs.Finds.{before, axis, slope, upward, threshold, coarse, seen, bitAt, pick}
+use Rattle.a5.proofs.Places.{base, spotSum, place}
 
 -- ---- the shape of a separator: it looks at one form of a pair, b, a or a + b
 unfoldable form : ℕ → AB → ℤ
@@ -102,11 +103,11 @@ place-b n k p = ap (λ z. spotSum p .b +ℤ z) (doubled-b (suc n) (base k) ∙ a
 
 form-gap : (axis n k t : ℕ) (p : Spot) (q : ℕ) → before-g k ≤ before-x k + before-y k → q ≤ 1 → HasParity (2 * 2 ^ n) k p q →
     form axis (place (suc n) k p) +ℤ level axis k t *ℤ pos (2 ^ n) ≡ pos 4 *ℤ gap (2 ^ n) axis t p q
-unfolding form before gap seen rest spotSum base lack
-form-gap zero n k t p q h s e = rw (place-b n k p) (gap-one (2 ^ n) (lack k) t (p .x) (p .y) (p .g) q s e (before-x k))
-form-gap (suc zero) n k t p q h s e = rw (place-a n k p) (gap-one (2 ^ n) (lack k) t (p .y) (p .x) (p .g) q s (omega arith) (before-y k))
+unfolding form before gap seen rest spotSum base skew
+form-gap zero n k t p q h s e = rw (place-b n k p) (gap-one (2 ^ n) (skew k) t (p .x) (p .y) (p .g) q s e (before-x k))
+form-gap (suc zero) n k t p q h s e = rw (place-a n k p) (gap-one (2 ^ n) (skew k) t (p .y) (p .x) (p .g) q s (omega arith) (before-y k))
 form-gap (suc (suc axis)) n k t p q h s e =
-    rw (place-a n k p, place-b n k p) (gap-two (2 ^ n) (lack k) t (p .x) (p .y) (p .g) q s e (before-x k) (before-y k) (before-g k) (omega arith))
+    rw (place-a n k p, place-b n k p) (gap-two (2 ^ n) (skew k) t (p .x) (p .y) (p .g) q s e (before-x k) (before-y k) (before-g k) (omega arith))
 
 forty-eight : (m w : ℤ) → (pos 12 *ℤ m) *ℤ (pos 4 *ℤ w) ≡ pos 48 *ℤ (m *ℤ w)
 forty-eight m w = *ℤ-assoc (pos 12) m (pos 4 *ℤ w) ∙ ap (λ z. pos 12 *ℤ z) (*ℤ-left-comm m (pos 4) w) ∙ sym (*ℤ-assoc (pos 12) (pos 4) (m *ℤ w))

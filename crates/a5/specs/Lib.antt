@@ -1,3 +1,4 @@
 pub mod A5
 pub mod A5Table
 pub mod Lookup
+pub mod Inside

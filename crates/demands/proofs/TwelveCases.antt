@@ -13,9 +13,8 @@ use Rattle.tables.proofs.Examples.{no-split}
 use Rattle.tables.specs.Compiler.{compiledTo}
 use Rattle.tables.specs.Descent.{entry}
 use Rattle.a5.specs.A5Table.{a5Table}
-use Rattle.a5.proofs.Footprints.{before-x, before-y, before-g, begins, at-x, at-y, at-g, leaf-x, leaf-y, leaf-g}
-use Rattle.a5.proofs.Spots.{moved, leaf, walk}
-use Rattle.a5.proofs.Axioms.{tripleAt}
+use Rattle.a5.specs.Inside.Footprints.{before-x, before-y, before-g, begins, at-x, at-y, at-g, leaf-x, leaf-y, leaf-g}
+use Rattle.a5.specs.Inside.Spots.{moved, leaf, walk, tripleAt}
 use Rattle.a5.proofs.Once.{cellTriple}
 use Rattle.lsystem.proofs.CellLaws.{axiomIn, cell-at}
 use Rattle.curve.proofs.Examples.{point-examples}

@@ -1,7 +1,7 @@
 -- The answer of `triple_to_s`: the flavor's answer says whether the triple is in bounds, and its spot is the position's.
 use mathlib.Core.Path.{_≡_, refl, sym, ap, _∙_, subst}
 use mathlib.Core.Bool.{Bool, true, false, not}
-use Prim.Native.Nat.{ℕ, zero, suc, _+_, _-_, _*_, _/_, _%_, _^_, _<_, _≤_}
+use Prim.Native.Nat.{ℕ, zero, suc, _+_, _-_, _/_, _^_, _<_, _≤_}
 use native.Mathlib.Omega.{arith}
 use native.Mathlib.Nat as N
 use borrow.Author.Tests.{le-ltb}
@@ -24,19 +24,18 @@ use Rattle.triple.specs.Orientations.{recipeOf, placeFrom, curvePlace}
 use Rattle.triple.specs.Answers.{saidDomain, saidFlavor}
 use Rattle.triple.specs.Triples.{goodSum, inBounds, closedFlavor, flavorOf}
 use Rattle.triple.proofs.DomainLaws.{out-of-domain, in-domain, shallow, oriented, rows-most, v-rows}
-use Rattle.triple.proofs.OrientationLaws.{six, place-is}
-use Rattle.a5.proofs.Spots.{Spot, spot}
+use Rattle.triple.proofs.OrientationLaws.{place-is}
+use Rattle.a5.specs.Inside.Spots.{Spot, spot, tripleAt, spotAt}
 use Rattle.a5.proofs.FootprintLaws.{spot-is}
-use Rattle.a5.proofs.Axioms.{tripleAt, spotAt, bounds-wedge, triple-spot}
+use Rattle.a5.proofs.Axioms.{bounds-wedge, triple-spot}
 use Rattle.a5.proofs.Once.{position}
+use Rattle.strides.specs.Searches.{onTile, digitsAfter}
+use Rattle.strides.proofs.TileLaws.{digits-position}
 use Rattle.lsystem.specs.declared.Position.{Position}
-use Rattle.lsystem.specs.declared.tiles.Spot as Code
-use Rattle.lsystem.specs.declared.tiles.Trail.{Trail}
 use Rattle.lsystem.specs.Cells.{seek, positionOf}
-use Rattle.lsystem.specs.Tiles.{onTile, trailed, Narrow}
 use Rattle.lsystem.proofs.CellLaws.{axiomIn}
+use Rattle.lsystem.proofs.EndLaws.{axiom-order}
 use Rattle.lsystem.proofs.Numbering.{only-finds, seek-placed}
-use Rattle.lsystem.proofs.TileLaws.{tileAbove, position-trailed}
 
 -- ---- a triple in bounds by its spot
 module _ (n : ℕ) (t : Triple) (b : inBounds (suc n) t ≡ true) where
@@ -98,26 +97,13 @@ module _ (r : ℕ) (t : Triple) (h : (0 < r) × ((r ≤ 30) × (inBounds r t ≡
 pub cast-of : {z : ℤ} (k : ℕ) → z ≡ pos k → k < 2 ^ 30 → T (nonNeg z) × Fits w64 (natAbs z)
 cast-of k e h = subst (λ z. T (nonNeg z) × Fits w64 (natAbs z)) (sym e) (tt, record { fits = omega arith })
 
-pub cast-is : {x y g : ℤ} (p : Spot) → x ≡ pos (p .x) → y ≡ pos (p .y) → g ≡ pos (p .g) → (p .x < 2 ^ 30) × ((p .y < 2 ^ 30) × (p .g < 2 ^ 30))
-    → Narrow (record { x = natAbs x; y = natAbs y; g = natAbs g }) × (spot (natAbs x) (natAbs y) (natAbs g) ≡ p)
-cast-is p a b c s =
-    let i = ap natAbs a in
-    let j = ap natAbs b in
-    let k = ap natAbs c in
-    (record { x = omega (arith, i); y = omega (arith, j); g = omega (arith, k) }, spot-is i j k)
+pub cast-is : {x y g : ℤ} (p : Spot) → x ≡ pos (p .x) → y ≡ pos (p .y) → g ≡ pos (p .g) → spot (natAbs x) (natAbs y) (natAbs g) ≡ p
+cast-is p a b c = spot-is (ap natAbs a) (ap natAbs b) (ap natAbs c)
 
--- ---- the lookup
-tile-above : (o : ℕ) → o ≤ 5 → tileAbove (axiomIn o) ≡ 112 + o / 2
-unfolding axiomIn
-tile-above = six (λ o. tileAbove (axiomIn o) ≡ 112 + o / 2) refl refl refl refl refl refl
-
-module _ (o n : ℕ) (t : Triple) (h : o ≤ 5) (k : n ≤ 29) (b : inBounds (suc n) t ≡ true) (u : Code.Spot) (e : spot (u .x) (u .y) (u .g) ≡ spotAt n t)
-    (q : Trail) (eq : q ≡ trailed (suc n) u (onTile (112 + o / 2))) (p : ℕ) (ep : p ≡ 4 * q .s + q .tile % 4) where
+-- ---- the search
+module _ (o n : ℕ) (t : Triple) (h : o ≤ 5) (k : n ≤ 29) (b : inBounds (suc n) t ≡ true) (u : Spot) (e : u ≡ spotAt n t) (p : ℕ) (ep : p ≡ digitsAfter (suc n) u (onTile (32 + o / 2))) where
   place-found : p ≡ position (axiomIn o) n t
-  place-found =
-      ep
-      ∙ ap (λ (q : Trail). 4 * q .s + q .tile % 4) (eq ∙ ap (λ m. trailed (suc n) u (onTile m)) (sym (tile-above o h)))
-      ∙ position-trailed (axiomIn o) n t b u e
+  place-found = ep ∙ (λ i. digitsAfter (suc n) (e i) (onTile (32 + axiom-order o h i))) ∙ digits-position (axiomIn o) n t b
 
   looked-up : {w : Recipe} → w ≡ recipeOf o → {m : ℕ} → m ≡ positionCount (suc n) → {s : ℕ} → s ≡ placeFrom (w .backward) m p → told (record { s = s; flavor = closedFlavor (suc n) t }) ≡ seek o (suc n) t (4 ^ suc n) 0
   looked-up ew em es =
@@ -125,13 +111,13 @@ module _ (o n : ℕ) (t : Triple) (h : o ≤ 5) (k : n ≤ 29) (b : inBounds (su
       ∙ sym (seek-placed o n h k t b)
 
 -- the same, as the code has the resolution
-module _ (o : ℕ) (t : Triple) (u : Code.Spot) (q : Trail) (p : ℕ) (ep : p ≡ 4 * q .s + q .tile % 4) where
-  pub found-at : (r : ℕ) → (o ≤ 5) × ((0 < r) × ((r ≤ 30) × (inBounds r t ≡ true))) → spot (u .x) (u .y) (u .g) ≡ spotAt (r - 1) t → q ≡ trailed r u (onTile (112 + o / 2))
+module _ (o : ℕ) (t : Triple) (u : Spot) (p : ℕ) where
+  pub found-at : (r : ℕ) → (o ≤ 5) × ((0 < r) × ((r ≤ 30) × (inBounds r t ≡ true))) → u ≡ spotAt (r - 1) t → p ≡ digitsAfter r u (onTile (32 + o / 2))
       → {w : Recipe} → w ≡ recipeOf o → {m : ℕ} → m ≡ positionCount r → {s : ℕ} → s ≡ placeFrom (w .backward) m p → told (record { s = s; flavor = closedFlavor r t }) ≡ seek o r t (4 ^ r) 0
-  found-at zero h e eq = absurd (N.not-suc-le-zero (h .1 .0))
-  found-at (suc n) h e eq =
+  found-at zero h e ep = absurd (N.not-suc-le-zero (h .1 .0))
+  found-at (suc n) h e ep =
       let m : suc n - 1 ≡ n = omega arith in
-      looked-up o n t (h .0) (omega (arith, h .1 .1 .0)) (h .1 .1 .1) u (e ∙ ap (λ n. spotAt n t) m) q eq p ep
+      looked-up o n t (h .0) (omega (arith, h .1 .1 .0)) (h .1 .1 .1) u (e ∙ ap (λ n. spotAt n t) m) p ep
 
 -- ---- the answer, by the tests in their order
 abbrev answered : {A : Type 0} → Bool → Bool → Told A → Told A

@@ -1,12 +1,11 @@
 // From position to cell.
 ghost use mathlib.Core.Path.{_≡_};
 ghost use Prim.Native.Nat.{_<_, _≤_, _+_, _-_, _^_};
-ghost use lib.IntN.{pos, negℤ, _-ℤ_};
-ghost use Rattle.a5.proofs.Axioms.{Shape};
+ghost use Rattle.strides.specs.Walks.{stateIn};
 ghost use Rattle.lsystem.specs.Answers.{saidCell};
 ghost use Rattle.lsystem.specs.Cells.{cellOf};
-ghost use Rattle.lsystem.specs.Walks.{cellBy};
-use crate::walk::walk;
+ghost use Rattle.lsystem.specs.Inside.CellParts.{tripleBy, cellBy};
+use crate::walk::walk_to;
 use triple::Triple;
 use triple::domain::DomainAnswer;
 use triple::domain::domain_of;
@@ -27,25 +26,25 @@ pub enum CellAnswer {
     Refused(Refusal),
 }
 
-// The triple whose spot is (x, y, g).
-fn triple_at(resolution: u8, x: u64, y: u64, g: u64) -> Triple
-    requires { ⌜ (resolution ≤ 30) × ((x < 2 ^ 30) × ((y < 2 ^ 30) × (g < 2 ^ 30))) ⌝ }
-    ensures { λ t. ⌜ t ≡ record { x = pos (x + 1) -ℤ pos (2 ^ resolution); y = pos y; z = negℤ (pos g) } ⌝ }
+// The triple whose spot begins (x, y), by its parity: the sum of its numbers.
+fn triple_at(resolution: u8, x: u64, y: u64, parity: u8) -> Triple
+    requires { ⌜ (resolution ≤ 30) × ((x < 2 ^ 30) × ((y < 2 ^ 30) × (parity < 2))) ⌝ }
+    ensures { λ t. ⌜ t ≡ tripleBy (2 ^ resolution) x y parity ⌝ }
 {
     let column = (x + 1) as i64 - row_count(resolution);
-    let up = -(g as i64);
+    let up = parity as i64 - column - y as i64;
     Triple::new(column as i32, y as i32, up as i32)
 }
 
-// The cell at a place of an axiom's curve.
-fn cell_at(state: u64, resolution: u8, place: u64) -> Cell
-    requires { ⌜ (0 < resolution) × ((resolution ≤ 30) × Shape state) ⌝ }
-    ensures { λ c. ⌜ c ≡ cellBy state (resolution - 1) place ⌝ }
+// The cell at a place of the curve of the axiom A, C or B, by the number of its letter among them.
+fn cell_at(letter: u64, resolution: u8, place: u64) -> Cell
+    requires { ⌜ (letter < 3) × ((0 < resolution) × (resolution ≤ 30)) ⌝ }
+    ensures { λ c. ⌜ c ≡ cellBy (stateIn (28 + letter)) (resolution - 1) place ⌝ }
 {
-    let l = walk(state, (resolution - 1) as u64, place).land(place % 4);
+    let e = walk_to(letter, resolution as u64, place);
     Cell {
-        triple: triple_at(resolution, l.x, l.y, l.g),
-        flavor: l.flavor,
+        triple: triple_at(resolution, e.x, e.y, e.flavor % 2),
+        flavor: e.flavor,
     }
 }
 
@@ -69,5 +68,5 @@ pub fn s_to_cell(orientation: u8, resolution: u8, s: u64) -> CellAnswer
     }
     let recipe = recipe_of(orientation);
     let place = place_from(recipe.backward, cells, s);
-    CellAnswer::Cell(cell_at(2 * recipe.motif, resolution, place))
+    CellAnswer::Cell(cell_at((orientation / 2) as u64, resolution, place))
 }

@@ -1,17 +1,15 @@
-// From cell to position: a cell's spot is looked up in A5's tiles, one digit a level.
+// From cell to position: the digits on the way to a cell's spot are searched from tile to tile.
 ghost use mathlib.Core.Path.{_≡_};
 ghost use mathlib.Core.Bool.{true};
 ghost use Prim.Native.Nat.{_<_, _≤_, _-_, _^_};
 ghost use Rattle.triple.specs.Refusals.{told};
 ghost use Rattle.triple.specs.Triples.{inBounds, closedFlavor};
-ghost use Rattle.a5.proofs.Spots.{spot};
-ghost use Rattle.a5.proofs.Axioms.{spotAt};
+ghost use Rattle.a5.specs.Inside.Spots.{spot, spotAt};
 ghost use Rattle.lsystem.specs.Answers.{saidPosition};
 ghost use Rattle.lsystem.specs.Cells.{positionOf, seek};
-ghost use Rattle.lsystem.specs.Tiles.{Narrow};
 use crate::Position;
-use crate::tiles::Spot;
-use crate::tiles::seek;
+use crate::search::Spot;
+use crate::search::search;
 use triple::FlavorAnswer;
 use triple::Triple;
 use triple::domain::DomainAnswer;
@@ -29,7 +27,7 @@ pub enum PositionAnswer {
 
 fn spot_of(resolution: u8, t: Triple) -> Spot
     requires { ⌜ (0 < resolution) × ((resolution ≤ 30) × (inBounds resolution t ≡ true)) ⌝ }
-    ensures { λ p. ⌜ (Narrow p) × (spot (p .x) (p .y) (p .g) ≡ spotAt (resolution - 1) t) ⌝ }
+    ensures { λ p. ⌜ spot (p .x) (p .y) (p .g) ≡ spotAt (resolution - 1) t ⌝ }
 {
     let x = row_count(resolution) - 1 + t.x as i64;
     let g = -(t.z as i64);
@@ -45,8 +43,8 @@ fn looked_up(orientation: u8, resolution: u8, t: Triple) -> u64
     requires { ⌜ (orientation ≤ 5) × ((0 < resolution) × ((resolution ≤ 30) × (inBounds resolution t ≡ true))) ⌝ }
     ensures { λ s. ⌜ told (record { s = s; flavor = closedFlavor resolution t }) ≡ seek orientation resolution t (4 ^ resolution) 0 ⌝ }
 {
-    let above = 112 + (orientation / 2) as u64;
-    let place = seek(above, resolution as u64, spot_of(resolution, t)).end();
+    let letter = (orientation / 2) as u64;
+    let place = search(letter, resolution as u64, spot_of(resolution, t));
     let recipe = recipe_of(orientation);
     place_from(recipe.backward, position_count(resolution), place)
 }

@@ -1,148 +1,63 @@
-// From position to spot: the walk down A5's footprints by the digits of a position, highest first.
+// From place to cell: a walk down A5's curve by the digits of a place, highest first, three of them a step.
 ghost use mathlib.Core.Path.{_≡_};
-ghost use Prim.Native.Nat.{_<_, _≤_, _^_, _/_, _%_};
-ghost use Rattle.lsystem.specs.Walks.{walkWord, endWord, strode, walked, landed, standing, Roomy};
+ghost use Prim.Native.Nat.{_<_, _≤_, _+_, _-_, _^_, _/_, _%_};
+ghost use Rattle.strides.specs.Walks.{onRow, threeDown, endBelow, endAfter};
+ghost use Rattle.lsystem.specs.Inside.Rooms.{WalkRoom};
+use strides::End;
+use strides::Walk;
+use strides::walk_end;
+use strides::walk_step;
 
-// Four children, each in 16 bits: state in 5, then where its footprint begins: x in 2, y in 3, g in 2.
-fn walk_word(state: u64) -> u64
-    ensures { λ w. ⌜ w ≡ walkWord state ⌝ }
+// Three levels down.
+fn step(w: Walk, digits: u64) -> Walk
+    requires { ⌜ (WalkRoom 0 w) × (digits < 64) ⌝ }
+    ensures { λ q. ⌜ q ≡ threeDown w digits ⌝ }
 {
-    match state {
-        0 => 0x942010000ca0068,
-        1 => 0x30841082b0889,
-        2 => 0x940006b00c90102,
-        3 => 0x1088a08280843,
-        4 => 0x111094700cd0068,
-        5 => 0x8500006082c0889,
-        6 => 0x8500005088a0838,
-        7 => 0x1110944006b00d9,
-        8 => 0xa03090200960028,
-        9 => 0x2010309370989,
-        10 => 0x110105098a0928,
-        11 => 0xa100904002b0089,
-        12 => 0x8a0038090f0a10,
-        13 => 0x92b0999010e0011,
-        14 => 0x8960838084e0010,
-        15 => 0x7700d9010f0951,
-        16 => 0x85008370899000e,
-        17 => 0x11100d60078094f,
-        18 => 0x896083b00150843,
-        19 => 0x7700da09540102,
-        20 => 0xca007809530102,
-        21 => 0x82b089900120843,
-        22 => 0x996092801100011,
-        23 => 0x37008909110a10,
-        24 => 0x96003809130a03,
-        25 => 0x937099901120002,
-        26 => 0x20101098a0938,
-        27 => 0xa030900002b0099,
-        _ => 0,
+    let q = walk_step(w.row + digits);
+    Walk {
+        x: 8 * w.x + q.x,
+        y: 8 * w.y + q.y,
+        row: q.row,
     }
 }
 
-// Four leaves, each in 8 bits: x, y and g of its spot in the footprint, then the flavor, in 2 each.
-fn end_word(state: u64) -> u64
-    ensures { λ w. ⌜ w ≡ endWord state ⌝ }
+// Two levels down, and the leaf.
+fn end(w: Walk, digits: u64) -> End
+    requires { ⌜ (WalkRoom 0 w) × (digits < 64) ⌝ }
+    ensures { λ e. ⌜ e ≡ endBelow w digits ⌝ }
 {
-    match state {
-        0 => 0x95844501,
-        1 => 0xc0d11054,
-        2 => 0x95014584,
-        3 => 0xc05410d1,
-        4 => 0x84954501,
-        5 => 0xd1c01054,
-        6 => 0xd1c05410,
-        7 => 0x84950145,
-        8 => 0xd8944400,
-        9 => 0x80c41458,
-        10 => 0x80c45814,
-        11 => 0xd8940044,
-        12 => 0x440094d8,
-        13 => 0x1458c480,
-        14 => 0x5410d1c0,
-        15 => 0x1458495,
-        16 => 0xd11054c0,
-        17 => 0x84450195,
-        18 => 0x5410c0d1,
-        19 => 0x1459584,
-        20 => 0x45019584,
-        21 => 0x1054c0d1,
-        22 => 0x5814c480,
-        23 => 0x4494d8,
-        24 => 0x440094d8,
-        25 => 0x1458c480,
-        26 => 0x80c45814,
-        27 => 0xd8940044,
-        _ => 0,
+    let e = walk_end(w.row + digits);
+    End {
+        x: 4 * w.x + e.x,
+        flavor: e.flavor,
+        y: 4 * w.y + e.y,
     }
 }
 
-// Where a walk stands: a state, and the beginning of its footprint, in units of its scale.
-pub(crate) struct Stand {
-    pub x: u64,
-    pub y: u64,
-    pub g: u64,
-    pub state: u64,
-}
-
-// Where a walk ends: a cell's spot in the footprint that the walk began in, and its flavor.
-pub(crate) struct Landing {
-    pub x: u64,
-    pub y: u64,
-    pub g: u64,
-    pub flavor: u8,
-}
-
-impl Stand {
-    fn down(self, digit: u64) -> Stand
-        requires { ⌜ (Roomy 0 self) × (digit < 4) ⌝ }
-        ensures { λ q. ⌜ q ≡ strode self digit ⌝ }
-    {
-        let w = walk_word(self.state) >> (16 * digit);
-        Stand {
-            x: 2 * self.x + w / 32 % 4,
-            y: 2 * self.y + w / 128 % 8,
-            g: 2 * self.g + w / 1024 % 4,
-            state: w % 32,
-        }
-    }
-
-    pub(crate) fn land(self, digit: u64) -> Landing
-        requires { ⌜ (Roomy 0 self) × (digit < 4) ⌝ }
-        ensures { λ l. ⌜ l ≡ landed self digit ⌝ }
-    {
-        let w = end_word(self.state) >> (8 * digit);
-        Landing {
-            x: self.x + w % 4,
-            y: self.y + w / 4 % 4,
-            g: self.g + w / 16 % 4,
-            flavor: (w / 64 % 4) as u8,
-        }
-    }
-}
-
-fn digit_of(s: u64, k: u64) -> u64
-    requires { ⌜ k ≤ 30 ⌝ }
-    ensures { λ d. ⌜ d ≡ s / 4 ^ k % 4 ⌝ }
+// The three digits of s from a bit up.
+fn digits_from(s: u64, bit: u64) -> u64
+    requires { ⌜ bit ≤ 63 ⌝ }
+    ensures { λ d. ⌜ (d < 64) × (d ≡ s / 2 ^ bit % 64) ⌝ }
 {
-    (s >> (2 * k)) % 4
+    (s >> bit) % 64
 }
 
-// Down from a state by the digits `levels` to 1 of s.
-pub(crate) fn walk(state: u64, levels: u64, s: u64) -> Stand
-    requires { ⌜ (state < 28) × (levels ≤ 30) ⌝ }
-    ensures { λ p. ⌜ p ≡ walked levels s (standing state) ⌝ }
+// Where the digits of a place lead from the axiom of a letter: A, C or B. The walk begins in the row in which the
+// digits before its own first one, none to two, count for nothing.
+pub(crate) fn walk_to(letter: u64, resolution: u64, place: u64) -> End
+    requires { ⌜ (letter < 3) × ((0 < resolution) × (resolution ≤ 30)) ⌝ }
+    ensures { λ e. ⌜ e ≡ endAfter (resolution - 1) place (onRow (28 + letter)) ⌝ }
 {
-    let mut p = Stand {
+    let steps = (resolution - 1) / 3;
+    let mut w = Walk {
         x: 0,
         y: 0,
-        g: 0,
-        state,
+        row: 64 * (28 + 3 * (3 * steps + 3 - resolution) + letter),
     };
-    let mut k = levels;
-    while k > 0 {
-        p = p.down(digit_of(s, k));
-        k -= 1;
+    let mut bit = 6 * steps;
+    while bit > 0 {
+        w = step(w, digits_from(place, bit));
+        bit -= 6;
     }
-    p
+    end(w, place % 64)
 }

@@ -18,6 +18,6 @@ s-to-cell-spec =
     (λ c. search (needs, cells))
     (λ c κs. search needs)
     (λ c κs. search needs)
-    (λ c. search (needs, cells))
+    (λ c. search needs)
     (λ c κs. search (needs, cells))
     (λ c. search (needs, cells)))

@@ -1,4 +1,4 @@
--- `lookup::looked_up`: the digits on the way from the tile above the axiom are those of the place.
+-- `lookup::looked_up`: the digits on the way from the axiom are those of the place.
 use borrow.Author.Needs.{needs}
 use Rattle.lsystem.proofs.PositionLaws.{found-at}
 use Rattle.lsystem.proofs.lookup.looked_up.Statement.{statement}
@@ -9,8 +9,6 @@ looked-up-spec =
     tie.close
     (tie.spec
     (λ c. search needs)
-    (λ c. search needs)
-    (λ c κs. search needs)
     (λ c κs. search needs)
     (λ c κs. search needs)
     (λ c κs. search needs)

@@ -49,7 +49,7 @@ cast-t10 c =
 returns : tie.Need-returns
 returns c =
     let d = c .before .before .before .before .before .before .before in
-    cast-is _ (column-is (d .args .resolution) (d .args .t) (d .pre) _ (c .before .before .before .before .before .before .row-count .ensures)) (row-is _ (d .args .t) (d .pre)) (slant-is _ (d .args .t) (d .pre)) (spotted _ _ (d .pre) .small)
+    cast-is _ (column-is (d .args .resolution) (d .args .t) (d .pre) _ (c .before .before .before .before .before .before .row-count .ensures)) (row-is _ (d .args .t) (d .pre)) (slant-is _ (d .args .t) (d .pre))
 
 pub spot-of-spec : {M : Type 1} → statement M
 spot-of-spec =

@@ -1,0 +1,2 @@
+pub mod Footprints
+pub mod Spots

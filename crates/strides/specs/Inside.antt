@@ -1,0 +1,3 @@
+pub mod Tiles
+pub mod Entries
+pub mod Sizes
