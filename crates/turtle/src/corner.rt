@@ -21,7 +21,7 @@ pub enum TripleAnswer {
     Refused(Refusal),
 }
 
-// The corner sum of a triple's cell. The halving is exact: 12 (y - z) + 12 and b are both even.
+// The corner sum of a triple's cell.
 pub fn corner_sum(t: Triple) -> CornerAnswer
     ensures { λ r. ⌜ saidCorner r ≡ cornerSumOf t ⌝ }
 {
@@ -35,14 +35,15 @@ pub fn corner_sum(t: Triple) -> CornerAnswer
     CornerAnswer::Sum(sum_of_corners(t))
 }
 
+// The Rust's b = 4 (2x - y - z) - 4 and a = (12 (y - z) + 12 - b) / 2, multiplied out.
 fn sum_of_corners(t: Triple) -> AB
     ensures { λ p. ⌜ p ≡ cornerSum t ⌝ }
 {
     let x = t.x as i64;
     let y = t.y as i64;
     let z = t.z as i64;
-    let b = 4 * (2 * x - y - z) - 4;
-    let a = (12 * (y - z) + 12 - b) / 2;
+    let a = 8 * y - 4 * x - 4 * z + 8;
+    let b = 8 * x - 4 * y - 4 * z - 4;
     AB::new(a, b)
 }
 
