@@ -17,15 +17,15 @@ use Rattle.triple.specs.Refusals.{told, refused, numberOf, refuse}
 use Rattle.grammar.specs.Texts.{linesOf}
 use Rattle.grammar.specs.Curves.{tokenBytes}
 use Rattle.grammar.specs.Tests.{Verdict, fine, fault}
-use Rattle.tables.specs.Compiler.{states, faulty, tableFor, compiledTo, afterCompile}
+use Rattle.tables.specs.Compiler.{states, faulty, tableFor, compiledTo, accepted, afterCompile}
 use Rattle.tables.specs.Compiler as Compiler
 use Rattle.tables.specs.Verdicts.{verdict}
 use Rattle.tables.proofs.Entries.{length-table}
 use Rattle.tables.proofs.CompilerLaws.{when-states, when-refused, when-faulty, some-tokens}
-use Rattle.capi.specs.Lent.{statusOf, Called, firstOf, CalledBoth}
-use Rattle.capi.specs.Calls.{countValues, compileBy, compileCall, faultLine, compileStatus, CompileCalled}
+use Rattle.triple.specs.Lent.{statusOf, afterCall, Called, firstOf, CalledBoth}
+use Rattle.capi.specs.Calls.{countValues, compileCall, faultLine, compileStatus, CompileCalled}
 use Rattle.capi.proofs.FaultLaws.{Few, verdict-few, fault-few}
-use Rattle.capi.proofs.LentLaws.{put-known, none-written, both-whole, first-short, second-short}
+use Rattle.triple.proofs.LentLaws.{put-known, none-written, both-whole, first-short, second-short}
 
 module _ (text : List ℕ) (table : List ℤ) (out : List ℕ) {n : ℕ} (within : n ≤ length table) (lent : n ≡ cond (ltb (length out) 1) 0 (length table)) where
   lent-none : length out ≡ 0 → n ≡ 0
@@ -53,7 +53,7 @@ module _ (text : List ℕ) (table : List ℤ) (out : List ℕ) {n : ℕ} (within
   module _ {after : List ℤ} (leaves : after ≡ afterCompile text (take n table)) where
     pub compile-states : {k : ℕ} → states k ≡ compiledTo text (take n table) → {status : ℕ} {counted : List ℕ} → Called (told (countValues k)) out status counted
         → CompileCalled text table out status (after ++ drop n table) counted
-    unfolding afterCompile
+    unfolding afterCompile afterCall
     compile-states {k} e c =
         let w = when-states text (take n table) e in
         let p = w .0 in
@@ -67,7 +67,7 @@ module _ (text : List ℕ) (table : List ℤ) (out : List ℕ) {n : ℕ} (within
         by-fine p (q .0 ∙ b .0, x ∙ b .1, q .1 ∙ ap (λ (k : ℕ). k ∷ drop 1 out) (w .1 .1) ∙ b .2)
 
     pub compile-refused : {e : ℕ} → Compiler.refused e ≡ compiledTo text (take n table) → {status : ℕ} → status ≡ e → CompileCalled text table out status (after ++ drop n table) out
-    unfolding afterCompile
+    unfolding afterCompile afterCall
     compile-refused {e} f {status} s =
         let w = when-refused text (take n table) f in
         let p = w .0 in
@@ -80,7 +80,7 @@ module _ (text : List ℕ) (table : List ℤ) (out : List ℕ) {n : ℕ} (within
         (eq-zero-or-pos (length out))))
 
     pub compile-faulty : {e line : ℕ} → faulty e line ≡ compiledTo text (take n table) → {status : ℕ} → status ≡ 256 * line + e → CompileCalled text table out status (after ++ drop n table) out
-    unfolding afterCompile compileCall compileStatus
+    unfolding afterCompile afterCall compileCall compileStatus
     compile-faulty {e} {line} f {status} s =
         let p = when-faulty text (take n table) f in
         let same : after ≡ take n table = leaves ∙ rw p refl in
@@ -107,7 +107,7 @@ module _ (text : List ℕ) (table : List ℤ) (out : List ℕ) where
       both true values = omega arith
       both false values = put (ltb (length table) (length values))
 
-      go : (v : Verdict) → Few v → statusOf (firstOf (compileBy v (tableFor text, countValues (2 * length (tokenBytes (linesOf text))))) out) table < 256
+      go : (v : Verdict) → Few v → statusOf (firstOf (accepted v (tableFor text, countValues (2 * length (tokenBytes (linesOf text))))) out) table < 256
       go fine f = both (ltb (length out) 1) (tableFor text)
       go (fault n line) f = omega (arith, f .0)
 

@@ -5,7 +5,7 @@ use Prim.Native.Nat.{ℕ}
 use lib.IntN.{ℤ}
 use lib.Ieee.{Float}
 use Rattle.triple.specs.Refusals.{Told}
-use Rattle.capi.specs.Lent.{Called, CalledBoth}
+use Rattle.triple.specs.Lent.{Called, CalledBoth}
 use Rattle.capi.specs.Calls.{cellCall, positionCall, nodeCall, stepCall, pointCall, cornerCall, tripleCall, writeCall, readCall, lineCall, descendCall, CompileCalled}
 
 -- ---- whatever the call gives

@@ -7,13 +7,13 @@ use lib.Ieee.{nan}
 use Rattle.triple.specs.Refusals.{numberOf}
 use Rattle.turtle.specs.Plane.{far}
 use Rattle.turtle.specs.Corners.{cornerSum, candidate, hasCornerSum, tripleOf}
-use Rattle.code.specs.Codes.{bitsOf, valueOf, bytesOf, codeLength, codeBits, codeBytes}
+use Rattle.code.specs.Codes.{bitsOf, valueOf, bytesOf, codeLength, codeBits, codeBytes, codeOf}
 use Rattle.text.specs.Words.{wordsOf as fieldsOf}
 use Rattle.grammar.specs.Texts.{rowsOf, shaped}
 use Rattle.grammar.specs.Tests.{badShape, textTests}
 use Rattle.tables.specs.Verdicts.{verdict}
 use Rattle.nodes.specs.Nodes.{goodNode, childStepOf}
-use Rattle.capi.specs.Lent.{statusOf, afterCall, firstOf, secondOf}
+use Rattle.triple.specs.Lent.{statusOf, afterCall, firstOf, secondOf}
 use Rattle.capi.specs.Calls.{tripleCall, stepCall, writeCall, compileCall, compileStatus}
 
 -- the corner sum (20, -16) into four places and into two; (14, -4), refused before the room is looked at
@@ -35,7 +35,7 @@ pub write-examples :
     × (afterCall (firstOf (writeCall 0 2 6) []) (7 ∷ 8 ∷ 9 ∷ []) ≡ 7 ∷ 8 ∷ 9 ∷ [])
     × (afterCall (secondOf (writeCall 0 2 6) (7 ∷ [])) (7 ∷ []) ≡ 7 ∷ [])
     × (statusOf (firstOf (writeCall 5 30 (4 ^ 30)) []) [] ≡ 3)
-unfolding numberOf bitsOf valueOf bytesOf codeLength codeBits codeBytes writeCall statusOf afterCall firstOf secondOf
+unfolding numberOf bitsOf valueOf bytesOf codeLength codeBits codeBytes codeOf statusOf afterCall firstOf secondOf
 write-examples = (refl, refl, refl, refl, refl, refl, refl)
 
 -- a child step of a motif or flip that is negative, refused after the resolution and the orientation and before the digit; of one that is too large the same

@@ -20,7 +20,7 @@ use Rattle.nodes.specs.declared.Node.{Node}
 use Rattle.nodes.specs.declared.ChildStep.{ChildStep}
 use Rattle.nodes.specs.Nodes.{goodNode, childStepOf}
 use Rattle.nodes.proofs.NodeLaws.{motif-high, flip-high}
-use Rattle.capi.specs.Lent.{valued, CalledBoth}
+use Rattle.triple.specs.Lent.{valued, CalledBoth}
 use Rattle.capi.specs.Calls.{stepValues, stepCall}
 use Rattle.capi.specs.Inside.Given.{clipped, nodeClipped}
 use Rattle.capi.proofs.SignedLaws.{Fitting}

@@ -1,9 +1,15 @@
-pub mod LentLaws
+-- ---- calls with one kind of value
+-- values with a sign, stored one by one
 pub mod SignedLaws
+-- what is made of the numbers that a call is given
 pub mod GivenLaws
-pub mod WriteLaws
-pub mod LineLaws
+-- ---- the compiler's call
+-- faults and lines are few, so that both go into a status
 pub mod FaultLaws
+-- its table, its number of states and its status, case by case
 pub mod CompileLaws
+-- ---- all calls
+-- each contract allows one result alone
 pub mod Determined
+-- calls by computation
 pub mod Examples

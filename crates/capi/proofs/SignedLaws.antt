@@ -11,8 +11,8 @@ use mir.ValLaws.{toZ-ofZ}
 use Rattle.triple.specs.declared.Triple.{Triple}
 use Rattle.triple.specs.Refusals.{told}
 use Rattle.turtle.specs.declared.AB.{AB}
-use Rattle.capi.specs.Lent.{Called, CalledBoth}
-use Rattle.capi.proofs.LentLaws.{sets-front, put-whole, both-whole}
+use Rattle.triple.specs.Lent.{Called, CalledBoth}
+use Rattle.triple.proofs.LentLaws.{sets-front, put-whole, both-whole}
 
 abbrev pub readBack : Width → List ℤ → List ℤ
 readBack w [] = []

@@ -1,8 +1,8 @@
 -- Each call's values, in the order in which it writes them.
 use mathlib.Core.Path.{_≡_}
 use mathlib.Core.List.{List, [], _∷_}
-use Prim.Native.Nat.{ℕ, _+_, _*_, _^_}
-use lib.Dec.{leb, eqb}
+use Prim.Native.Nat.{ℕ, _+_, _*_}
+use lib.Dec.{eqb}
 use lib.IntN.{ℤ, pos, negsuc}
 use lib.ListN.{length}
 use lib.Ieee.{Float}
@@ -22,14 +22,14 @@ use Rattle.nodes.specs.Nodes.{childStepOf, nodeOf}
 use Rattle.tables.specs.Descent.{Leaf, descentOf}
 use Rattle.curve.specs.Points.{pointOf}
 use Rattle.code.specs.declared.Reading.{Reading}
-use Rattle.code.specs.Codes.{codeLength, codeBytes, readOf}
+use Rattle.code.specs.Codes.{codeOf, readOf}
 use Rattle.query.specs.Lines.{answerLine}
 use Rattle.grammar.specs.Texts.{linesOf}
 use Rattle.grammar.specs.Curves.{tokenBytes}
 use Rattle.grammar.specs.Tests.{Verdict, fine, fault}
-use Rattle.tables.specs.Compiler.{tableFor}
+use Rattle.tables.specs.Compiler.{tableFor, accepted}
 use Rattle.tables.specs.Verdicts.{verdict}
-use Rattle.capi.specs.Lent.{valued, statusOf, afterCall, firstOf, secondOf}
+use Rattle.triple.specs.Lent.{valued, statusOf, afterCall, firstOf, secondOf, counting}
 
 -- x y z
 abbrev pub tripleValues : Triple → List ℤ
@@ -108,23 +108,16 @@ abbrev pub readCall : List ℕ → Told (List ℕ)
 readCall bytes = valued readingValues (readOf bytes)
 
 -- the code's bytes, and their count
-unfoldable pub writeCall : ℕ → ℕ → ℕ → Told (List ℕ × List ℕ)
-writeCall o r s =
-    inDomain o r
-    (refuse (leb (4 ^ r) s) Is.Position
-    (told (codeBytes o r s, countValues (codeLength r))))
+abbrev pub writeCall : ℕ → ℕ → ℕ → Told (List ℕ × List ℕ)
+writeCall o r s = counting (λ n. n) (codeOf o r s)
 
 -- the answer to a line as the program prints it, without LF, and its length
 abbrev pub lineCall : List ℕ → Told (List ℕ × List ℕ)
-lineCall line = told (answerLine line, countValues (length (answerLine line)))
+lineCall line = counting (λ n. n) (told (answerLine line))
 
 -- a text's table, and its number of states
-abbrev pub compileBy : Verdict → List ℤ × List ℕ → Told (List ℤ × List ℕ)
-compileBy fine values = told values
-compileBy (fault n line) values = refused n
-
 unfoldable pub compileCall : List ℕ → Told (List ℤ × List ℕ)
-compileCall text = compileBy (verdict text) (tableFor text, countValues (2 * length (tokenBytes (linesOf text))))
+compileCall text = accepted (verdict text) (tableFor text, countValues (2 * length (tokenBytes (linesOf text))))
 
 -- the number of the line at fault, from 1; 0 where no line is
 abbrev pub faultLine : Verdict → ℕ

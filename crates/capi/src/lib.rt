@@ -9,7 +9,7 @@ ghost use mathlib.Core.Path.{_≡_};
 ghost use mathlib.Core.Bool.{cond};
 ghost use Prim.Native.Nat.{_+_, _*_, _<_, _≤_};
 ghost use lib.Dec.{ltb};
-ghost use Rattle.capi.specs.Lent.{statusOf, afterCall, firstOf, secondOf};
+ghost use Rattle.triple.specs.Lent.{statusOf, afterCall, firstOf, secondOf};
 ghost use Rattle.capi.specs.Calls.{cellCall, positionCall, nodeCall, stepCall, pointCall, cornerCall, tripleCall, readCall, writeCall, lineCall, descendCall, compileCall, compileStatus};
 ghost use Rattle.capi.specs.Inside.Given.{clipped, nodeClipped};
 ghost use Rattle.triple.specs.Refusals.{numberOf};

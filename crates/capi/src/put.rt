@@ -4,7 +4,7 @@ ghost use mathlib.Core.Path.{_≡_};
 ghost use Rattle.triple.specs.Refusals.{told};
 ghost use Prim.Native.Nat.{_≤_};
 ghost use Rattle.descent.specs.Answers.{saidLeaf};
-ghost use Rattle.capi.specs.Lent.{statusOf, afterCall, firstOf, secondOf};
+ghost use Rattle.triple.specs.Lent.{statusOf, afterCall, firstOf, secondOf};
 ghost use Rattle.capi.specs.Calls.{tripleValues, cellValues, positionValues, nodeValues, stepValues, pairValues, drawnValues, countValues, readingValues};
 use code::Reading;
 use descent::TableCell;

@@ -2,10 +2,11 @@
 use mathlib.Core.Path.{_≡_, refl, sym, ap, _∙_}
 use mathlib.Core.List.{List}
 use Prim.Native.Nat.{ℕ}
+use Rattle.triple.specs.Lent.{countOf, afterCall}
 use Rattle.triple.proofs.Determined.{one-to-one, determined, numbered, answerOf}
 use Rattle.code.specs.declared.WriteAnswer.{WriteAnswer}
 use Rattle.code.specs.declared.ReadAnswer.{ReadAnswer}
-use Rattle.code.specs.Codes.{writeOf, afterWrite, readOf}
+use Rattle.code.specs.Codes.{codeOf, readOf}
 use Rattle.code.specs.Answers.{saidWrite, saidRead}
 
 -- ---- the answers
@@ -25,7 +26,7 @@ said-read-one-to-one = one-to-one saidRead (answerOf ReadAnswer.Read ReadAnswer.
 
 -- ---- the operations
 pub write-determined : (o r s : ℕ) (buffer : List ℕ) (a b : WriteAnswer) (x y : List ℕ)
-    → (saidWrite a ≡ writeOf o r s buffer) × (x ≡ afterWrite o r s buffer) → (saidWrite b ≡ writeOf o r s buffer) × (y ≡ afterWrite o r s buffer) → (a ≡ b) × (x ≡ y)
+    → (saidWrite a ≡ countOf (codeOf o r s) buffer) × (x ≡ afterCall (codeOf o r s) buffer) → (saidWrite b ≡ countOf (codeOf o r s) buffer) × (y ≡ afterCall (codeOf o r s) buffer) → (a ≡ b) × (x ≡ y)
 write-determined o r s buffer a b x y p q = (determined saidWrite said-write-one-to-one a b (p .0) (q .0), p .1 ∙ sym (q .1))
 
 pub read-determined : (bytes : List ℕ) (a b : ReadAnswer) → saidRead a ≡ readOf bytes → saidRead b ≡ readOf bytes → a ≡ b

@@ -3,8 +3,9 @@ use mathlib.Core.Path.{_≡_, refl}
 use mathlib.Core.List.{[], _∷_}
 use Prim.Native.Nat.{ℕ, _-_, _^_}
 use Rattle.triple.specs.Refusals.{Told, told, refused, numberOf}
+use Rattle.triple.specs.Lent.{countOf, afterCall}
 use Rattle.code.specs.declared.Reading.{Reading}
-use Rattle.code.specs.Codes.{bitsOf, valueOf, bytesOf, allBits, codeLength, codeBits, codeBytes, writeOf, afterWrite, readOf}
+use Rattle.code.specs.Codes.{bitsOf, valueOf, bytesOf, allBits, codeLength, codeBits, codeBytes, codeOf, readOf}
 
 abbrev reading : ℕ → ℕ → ℕ → ℕ → Told Reading
 reading o r s n = told (record { orientation = o; resolution = r; s = s; used = n })
@@ -20,14 +21,14 @@ code-examples = (refl, refl, refl, refl)
 
 -- a writer's count and its buffer afterwards, and the refusals in their order
 pub write-examples :
-    (writeOf 0 2 6 (7 ∷ 8 ∷ 9 ∷ []) ≡ told 2)
-    × (afterWrite 0 2 6 (7 ∷ 8 ∷ 9 ∷ []) ≡ 0x02 ∷ 0x60 ∷ 9 ∷ [])
-    × (writeOf 6 31 (4 ^ 31) [] ≡ refused 1)
-    × (writeOf 6 30 (4 ^ 30) [] ≡ refused 2)
-    × (writeOf 5 30 (4 ^ 30) [] ≡ refused 3)
-    × (writeOf 5 1 3 (7 ∷ []) ≡ refused 10)
-    × (afterWrite 5 1 3 (7 ∷ []) ≡ 7 ∷ [])
-unfolding numberOf bitsOf valueOf bytesOf codeLength codeBits codeBytes writeOf afterWrite
+    (countOf (codeOf 0 2 6) (7 ∷ 8 ∷ 9 ∷ []) ≡ told 2)
+    × (afterCall (codeOf 0 2 6) (7 ∷ 8 ∷ 9 ∷ []) ≡ 0x02 ∷ 0x60 ∷ 9 ∷ [])
+    × (countOf (codeOf 6 31 (4 ^ 31)) [] ≡ refused 1)
+    × (countOf (codeOf 6 30 (4 ^ 30)) [] ≡ refused 2)
+    × (countOf (codeOf 5 30 (4 ^ 30)) [] ≡ refused 3)
+    × (countOf (codeOf 5 1 3) (7 ∷ []) ≡ refused 10)
+    × (afterCall (codeOf 5 1 3) (7 ∷ []) ≡ 7 ∷ [])
+unfolding numberOf bitsOf valueOf bytesOf codeLength codeBits codeBytes codeOf countOf afterCall
 write-examples = (refl, refl, refl, refl, refl, refl, refl)
 
 -- a reader's answers, with spare bits set and a later byte there, and its refusals in their order

@@ -14,9 +14,11 @@ use Rattle.triple.specs.declared.refusal.Refusal.{Refusal}
 use Rattle.triple.specs.declared.refusal.Refusal.the-variants as Is
 use Rattle.triple.specs.Refusals.{Told, told, refuse}
 use Rattle.triple.specs.Domain.{greatestResolution, greatestOrientation}
+use Rattle.triple.specs.Lent.{countOf, afterCall}
 use Rattle.triple.proofs.DomainLaws.{domain-in}
 use Rattle.triple.proofs.RefusalLaws.{passed}
-use Rattle.code.specs.Codes.{bitsOf, valueOf, allBits, codeLength, codeBits, codeBytes, written, writeOf, afterWrite, readOf}
+use Rattle.triple.proofs.LentLaws.{wrote}
+use Rattle.code.specs.Codes.{bitsOf, valueOf, allBits, codeLength, codeBits, codeBytes, codeOf, readOf}
 use Rattle.code.proofs.BitLaws.{length-bits, value-front}
 use Rattle.code.proofs.ByteLaws.{all-bits-append, bits-of-byte, bits-of-bytes}
 use Rattle.code.proofs.CodeLaws.{code-bits, code-bytes, length-code, positionBytes, spareBits}
@@ -64,15 +66,20 @@ module _ (o r s : ℕ) (rest : List ℕ) where
       rw (orientation-back ho, resolution-back hr, position-back hs) (simp (ne-eqb _ _ (long .0), le-ltb _ _ (long .1)) (sym (domain-in o r _ hr ho)))
 
 -- ---- over a buffer: what a writer has answered is what a reader finds
-pub written-read-back : (o r s : ℕ) (buffer : List ℕ) (n : ℕ) → writeOf o r s buffer ≡ told n
-    → readOf (afterWrite o r s buffer) ≡ told (record { orientation = o; resolution = r; s = s; used = n })
-unfolding writeOf afterWrite
-written-read-back o r s buffer n p =
+-- of what is coded, all tests are passed
+pub coded : (o r s : ℕ) {code : List ℕ} → codeOf o r s ≡ told code → (r ≤ 30) × (o ≤ 5) × (s < 4 ^ r) × (code ≡ codeBytes o r s)
+unfolding codeOf
+coded o r s p =
     let shallow = passed (ltb greatestResolution r) Is.Resolution p in
     let oriented = passed (ltb greatestOrientation o) Is.Orientation (shallow .1) in
     let named = passed (leb (4 ^ r) s) Is.Position (oriented .1) in
-    let room = passed (ltb (length buffer) (codeLength r)) Is.Room (named .1) in
-    let count : codeLength r ≡ n = cc (room .1) in
-    ap (λ (a : Told ℕ). readOf (written (codeBytes o r s) buffer a)) p
-    ∙ read-back o r s (drop n buffer) (ltb-false 5 o (oriented .0)) (ltb-false 30 r (shallow .0)) (leb-false (4 ^ r) s (named .0))
-    ∙ ap (λ (k : ℕ). told (record { orientation = o; resolution = r; s = s; used = k })) count
+    (ltb-false 30 r (shallow .0), ltb-false 5 o (oriented .0), leb-false (4 ^ r) s (named .0), cc (named .1))
+
+pub written-read-back : (o r s : ℕ) (buffer : List ℕ) (n : ℕ) → countOf (codeOf o r s) buffer ≡ told n
+    → readOf (afterCall (codeOf o r s) buffer) ≡ told (record { orientation = o; resolution = r; s = s; used = n })
+written-read-back o r s buffer n p =
+    let w = wrote (codeOf o r s) buffer p in
+    let c = coded o r s (w .gave) in
+    ap readOf (w .stored ∙ ap (λ (code : List ℕ). code ++ drop n buffer) (c .3))
+    ∙ read-back o r s (drop n buffer) (c .1) (c .0) (c .2)
+    ∙ ap (λ (k : ℕ). told (record { orientation = o; resolution = r; s = s; used = k })) (sym (length-code o r s) ∙ ap length (sym (c .3)) ∙ w .count)

@@ -1,19 +1,21 @@
 -- What a writer answers, and its buffer afterwards, at each of its tests, in the form of what the code has in hand there; and the loop that writes.
-use mathlib.Core.Path.{_≡_, refl, ap, _∙_}
+use mathlib.Core.Path.{_≡_, refl, sym, _∙_}
 use mathlib.Core.List.{List, _++_}
 use Prim.Native.Nat.{ℕ, _+_, _^_, _≤_, _<_}
 use native.Mathlib.Omega.{arith}
 use lib.ListN.{length, drop, getD, set, length-set}
-use borrow.Author.Tests.{le-ltb, lt-ltb, le-leb, lt-leb}
+use borrow.Author.Tests.{le-leb, lt-leb}
 use Rattle.whole.proofs.Fill.{poured, poured-more, poured-all}
 use Rattle.triple.specs.declared.domain.DomainAnswer.{DomainAnswer}
 use Rattle.triple.specs.declared.refusal.Refusal.{Refusal}
 use Rattle.triple.specs.declared.refusal.Refusal.the-variants as Is
-use Rattle.triple.specs.Refusals.{Told, told, refused, numberOf}
+use Rattle.triple.specs.Refusals.{told, refused, numberOf}
 use Rattle.triple.specs.Domain.{domainOf, positionCount}
 use Rattle.triple.specs.Answers.{saidDomain}
 use Rattle.triple.proofs.DomainLaws.{out-of-domain, in-domain, shallow, oriented, positions-are}
-use Rattle.code.specs.Codes.{codeLength, codeBytes, written, writeOf, afterWrite}
+use Rattle.triple.specs.Lent.{countOf, afterCall}
+use Rattle.triple.proofs.LentLaws.{refused-count, refused-kept, short-count, short-kept, whole-count, whole-stored}
+use Rattle.code.specs.Codes.{codeLength, codeBytes, codeOf}
 use Rattle.code.proofs.CodeLaws.{length-code}
 
 -- ---- the loop that writes: the code's first k bytes stand in the place of the buffer's
@@ -37,51 +39,55 @@ pub ruleset putting = (put-none, put-more, put-all)
 
 -- ---- the tests
 module _ (o r s : ℕ) (buffer : List ℕ) where
-  -- the buffer that an answer leaves
-  left-by : {x : Told ℕ} → x ≡ writeOf o r s buffer → written (codeBytes o r s) buffer x ≡ afterWrite o r s buffer
-  unfolding afterWrite
-  left-by p = ap (written (codeBytes o r s) buffer) p
-
   module _ {a : DomainAnswer} (ea : saidDomain a ≡ domainOf o r) where
     module _ {e : Refusal} (m : a ≡ DomainAnswer.Refused e) where
-      pub outside-refused : refused (numberOf e) ≡ writeOf o r s buffer
-      unfolding writeOf
-      outside-refused = out-of-domain o r a ea _ m
+      outside : refused (numberOf e) ≡ codeOf o r s
+      unfolding codeOf
+      outside = out-of-domain o r a ea _ m
 
-      pub outside-left : buffer ≡ afterWrite o r s buffer
-      outside-left = left-by outside-refused
+      pub outside-refused : refused (numberOf e) ≡ countOf (codeOf o r s) buffer
+      outside-refused = refused-count buffer outside
+
+      pub outside-left : buffer ≡ afterCall (codeOf o r s) buffer
+      outside-left = refused-kept buffer outside
 
     module _ (m : a ≡ DomainAnswer.In) {count : ℕ} (count-is : count ≡ positionCount r) where
       positions : count ≡ 4 ^ r
       positions = positions-are r (shallow o r a ea m) count-is
 
       module _ (past : count ≤ s) where
-        pub past-refused : refused (numberOf Is.Position) ≡ writeOf o r s buffer
-        unfolding writeOf
-        past-refused = simp (le-leb (4 ^ r) s (rw positions at past)) (in-domain o r a ea m _)
+        beyond : refused (numberOf Is.Position) ≡ codeOf o r s
+        unfolding codeOf
+        beyond = simp (le-leb (4 ^ r) s (rw positions at past)) (in-domain o r a ea m _)
 
-        pub past-left : buffer ≡ afterWrite o r s buffer
-        past-left = left-by past-refused
+        pub past-refused : refused (numberOf Is.Position) ≡ countOf (codeOf o r s) buffer
+        past-refused = refused-count buffer beyond
+
+        pub past-left : buffer ≡ afterCall (codeOf o r s) buffer
+        past-left = refused-kept buffer beyond
 
       module _ (named : s < count) where
         pub position-named : s < 4 ^ r
         position-named = rw positions at named
 
+        given : told (codeBytes o r s) ≡ codeOf o r s
+        unfolding codeOf
+        given = simp (lt-leb (4 ^ r) s position-named) (in-domain o r a ea m _)
+
         module _ {used : ℕ} (length-is : used ≡ codeLength r) where
-          module _ (short : length buffer < used) where
-            pub short-refused : refused (numberOf Is.Room) ≡ writeOf o r s buffer
-            unfolding writeOf
-            short-refused = simp (lt-leb (4 ^ r) s position-named, lt-ltb (length buffer) (codeLength r) (rw length-is at short)) (in-domain o r a ea m _)
+          long : length (codeBytes o r s) ≡ used
+          long = length-code o r s ∙ sym length-is
 
-            pub short-left : buffer ≡ afterWrite o r s buffer
-            short-left = left-by short-refused
+          pub short-refused : length buffer < used → refused (numberOf Is.Room) ≡ countOf (codeOf o r s) buffer
+          short-refused = short-count buffer given long
 
-          module _ (room : used ≤ length buffer) where
-            pub whole-told : told used ≡ writeOf o r s buffer
-            unfolding writeOf
-            whole-told = ap told length-is ∙ simp (lt-leb (4 ^ r) s position-named, le-ltb (length buffer) (codeLength r) (rw length-is at room)) (in-domain o r a ea m _)
+          pub short-left : length buffer < used → buffer ≡ afterCall (codeOf o r s) buffer
+          short-left = short-kept buffer given long
 
-            pub whole-left : {out : List ℕ} → out ≡ codeBytes o r s ++ drop (codeLength r) buffer → out ≡ afterWrite o r s buffer
-            whole-left e = rw (e, ← length-is) (left-by whole-told)
+          pub whole-told : used ≤ length buffer → told used ≡ countOf (codeOf o r s) buffer
+          whole-told = whole-count buffer given long
+
+          pub whole-left : used ≤ length buffer → {out : List ℕ} → out ≡ codeBytes o r s ++ drop (codeLength r) buffer → out ≡ afterCall (codeOf o r s) buffer
+          whole-left room e = whole-stored buffer given long room (rw length-is e)
 
 pub ruleset writing = (shallow, oriented, position-named, outside-refused, outside-left, past-refused, past-left, short-refused, short-left, whole-told, whole-left)

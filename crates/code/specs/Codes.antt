@@ -42,22 +42,13 @@ codeBits o r s = bitsOf 3 o ++ (bitsOf 5 r ++ (bitsOf (2 * r) s ++ replicate (8 
 unfoldable pub codeBytes : ℕ → ℕ → ℕ → List ℕ
 codeBytes o r s = bytesOf (codeLength r) (codeBits o r s)
 
--- ---- the writer, lent a buffer
--- THE COUNT of bytes written
-unfoldable pub writeOf : ℕ → ℕ → ℕ → List ℕ → Told ℕ
-writeOf o r s buffer =
+-- ---- the writer
+-- THE CODE's bytes; Lent has how many are written, and the buffer afterwards
+unfoldable pub codeOf : ℕ → ℕ → ℕ → Told (List ℕ)
+codeOf o r s =
     inDomain o r
     (refuse (leb (4 ^ r) s) Is.Position
-    (refuse (ltb (length buffer) (codeLength r)) Is.Room
-    (told (codeLength r))))
-
--- THE BUFFER afterwards: the code and no byte past it touched; as it was where the call is refused
-abbrev pub written : List ℕ → List ℕ → Told ℕ → List ℕ
-written code buffer (told n) = code ++ drop n buffer
-written code buffer (refused e) = buffer
-
-unfoldable pub afterWrite : ℕ → ℕ → ℕ → List ℕ → List ℕ
-afterWrite o r s buffer = written (codeBytes o r s) buffer (writeOf o r s buffer)
+    (told (codeBytes o r s)))
 
 -- ---- the reader; its tests in order: empty, resolution, orientation, cut short
 -- THE READING: spare bits and later bytes are not looked at

@@ -21,7 +21,8 @@ ghost use mathlib.Core.Path.{_≡_};
 ghost use mathlib.Core.List.{_++_};
 ghost use Prim.Native.Nat.{_+_, _-_, _*_, _/_, _^_, _<_, _≤_};
 ghost use lib.ListN.{length, getD, drop};
-ghost use Rattle.code.specs.Codes.{valueOf, allBits, codeLength, codeBytes, writeOf, afterWrite, readOf};
+ghost use Rattle.triple.specs.Lent.{countOf, afterCall};
+ghost use Rattle.code.specs.Codes.{valueOf, allBits, codeLength, codeBytes, codeOf, readOf};
 ghost use Rattle.code.specs.Answers.{saidWrite, saidRead};
 use triple::domain::DomainAnswer;
 use triple::domain::domain_of;
@@ -49,7 +50,7 @@ pub enum ReadAnswer {
 
 // Writes a code at the front of a buffer. A refused call leaves the buffer as it was.
 pub fn write(orientation: u8, resolution: u8, s: u64, out: &mut [u8]) -> WriteAnswer
-    ensures { λ a. ⌜ (saidWrite a ≡ writeOf orientation resolution s (now (out .entry))) × (now (out .exit) ≡ afterWrite orientation resolution s (now (out .entry))) ⌝ }
+    ensures { λ a. ⌜ (saidWrite a ≡ countOf (codeOf orientation resolution s) (now (out .entry))) × (now (out .exit) ≡ afterCall (codeOf orientation resolution s) (now (out .entry))) ⌝ }
 {
     let domain = domain_of(orientation, resolution);
     if let DomainAnswer::Refused(e) = domain {

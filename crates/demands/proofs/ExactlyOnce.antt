@@ -12,8 +12,9 @@ use Rattle.lsystem.specs.declared.cell.Cell.{Cell}
 use Rattle.lsystem.specs.declared.Position.{Position}
 use Rattle.lsystem.specs.Cells.{drawnCell, named, cellAt, cellOf, positionOf}
 use Rattle.lsystem.proofs.Numbering.{cellOn, position-names, triple-named, unnamed-refused}
+use Rattle.triple.proofs.RefusalLaws.{passed}
 use Rattle.demands.specs.Demands.{tripleNamed, positionGiven, Numbering}
-use Rattle.demands.proofs.ToldLaws.{told-same, told-refused, answered, passed}
+use Rattle.demands.proofs.ToldLaws.{told-same, told-refused, answered}
 
 -- the curve is the drawing, from resolution 1 up
 drawn : (o r s : ℕ) → o ≤ 5 → r ≤ 30 → 1 ≤ r → s < 4 ^ r → cellOf o r s ≡ named o r (drawnCell o r s)
@@ -26,9 +27,9 @@ module _ (o r : ℕ) (h : o ≤ 5) (k : r ≤ 30) where
   below : (s : ℕ) (c : Cell) → cellOf o r s ≡ told c → s < 4 ^ r
   unfolding cellOf
   below s c e =
-      let shallow = passed _ _ (ltb 30 r) e in
-      let oriented = passed _ _ (ltb 5 o) (shallow .1) in
-      leb-false (4 ^ r) s (passed _ _ (leb (4 ^ r) s) (oriented .1) .0)
+      let shallow = passed (ltb 30 r) _ e in
+      let oriented = passed (ltb 5 o) _ (shallow .1) in
+      leb-false (4 ^ r) s (passed (leb (4 ^ r) s) _ (oriented .1) .0)
 
   -- and names a triple in bounds, which gives it back, with the closed formula's flavor
   pub names : (s : ℕ) (t : Triple) → tripleNamed o r s ≡ told t → (inBounds r t ≡ true) × (cellOf o r s ≡ told (cellOn r t)) × (positionOf o r t ≡ told (record { s = s; flavor = closedFlavor r t }))

@@ -9,13 +9,14 @@ use Rattle.triple.specs.Triples.{goodSum}
 use Rattle.turtle.specs.declared.AB.{AB}
 use Rattle.turtle.specs.Corners.{cornerSum, cornerSumOf, tripleOf, HasTriple}
 use Rattle.turtle.proofs.CornerLaws.{inverse-sound, inverse-complete, inverse-refused, corner-sum-unique}
+use Rattle.triple.proofs.RefusalLaws.{passed}
 use Rattle.demands.specs.Demands.{CornerSums}
-use Rattle.demands.proofs.ToldLaws.{told-same, told-refused, passed}
+use Rattle.demands.proofs.ToldLaws.{told-same, told-refused}
 
 -- a triple that has a corner sum is good, and that is it
 summed : (t : Triple) (p : AB) → cornerSumOf t ≡ told p → (goodSum t ≡ true) × (cornerSum t ≡ p)
 unfolding cornerSumOf
-summed t p e = let q = passed _ _ (not (goodSum t)) e in (not-false (goodSum t) (q .0), told-same (q .1))
+summed t p e = let q = passed (not (goodSum t)) _ e in (not-false (goodSum t) (q .0), told-same (q .1))
 
 refused-else : (p : AB) → ((t : Triple) → HasTriple p t → ⊥) → tripleOf p ≡ refused 6
 refused-else p none = ⊎-elim (λ h. absurd (none (h .0) (h .1))) (λ e. e) (inverse-refused p)

@@ -8,46 +8,27 @@ use lib.Dec.{ltb}
 use lib.IntN.{ℤ}
 use lib.ListN.{length, drop}
 use Rattle.triple.specs.declared.refusal.Refusal.the-variants.{Room}
-use Rattle.triple.specs.Refusals.{Told, told, refused, numberOf, refuse}
+use Rattle.triple.specs.Refusals.{Told, told, refused, numberOf}
+use Rattle.triple.specs.Lent.{statusOf, afterCall, Called, firstOf, secondOf, CalledBoth}
+use Rattle.triple.proofs.LentLaws.{counted-kept}
 use Rattle.grammar.specs.Texts.{linesOf}
 use Rattle.grammar.specs.Curves.{tokenBytes}
 use Rattle.grammar.specs.Tests.{Verdict, fine, fault}
-use Rattle.grammar.specs.WordAnswers.{writtenTo, afterWord}
-use Rattle.tables.specs.Compiler.{states, compiledTo, afterCompile, tableFor, unless, onlyIf}
+use Rattle.tables.specs.Compiler.{states, compiledTo, afterCompile, tableFor, unless, accepted}
 use Rattle.tables.specs.Compiler as Compiler
 use Rattle.tables.specs.Verdicts.{verdict}
-use Rattle.code.specs.Codes.{codeBytes, written, writeOf, afterWrite}
-use Rattle.query.specs.Prints.{printed, printOf, afterPrint}
-use Rattle.capi.specs.Lent.{statusOf, afterCall, Called, firstOf, secondOf, CalledBoth}
-use Rattle.capi.specs.Calls.{countValues, compileBy, compileCall, faultLine, compileStatus, CompileCalled}
+use Rattle.capi.specs.Calls.{countValues, compileCall, faultLine, compileStatus, CompileCalled}
 use Rattle.demands.specs.Demands.{LentBuffers}
-use Rattle.demands.proofs.ToldLaws.{told-refused}
-
-word : (word buffer : List ℕ) (n : ℕ) → writtenTo word buffer ≡ refused n → afterWord word buffer ≡ buffer
-unfolding writtenTo afterWord
-word w buffer n = go (ltb (length buffer) (length w))
-  where
-    go : (short : Bool) → refuse short Room (told (length w)) ≡ refused n → cond short buffer (w ++ drop (length w) buffer) ≡ buffer
-    go true e = refl
-    go false e = absurd (told-refused refl e)
 
 table : (text : List ℕ) (table : List ℤ) → ((n : ℕ) → compiledTo text table ≡ states n → ⊥) → afterCompile text table ≡ table
-unfolding compiledTo afterCompile
-table text t none = go (verdict text) (ltb (length t) (length (tableFor text))) none
+unfolding compiledTo afterCompile afterCall
+table text t none = go (verdict text) (ltb (length t) (length (tableFor text))) refl none
   where
-    go : (v : Verdict) (short : Bool) → ((n : ℕ) → unless v (cond short (Compiler.refused (numberOf Room)) (states (2 * length (tokenBytes (linesOf text))))) ≡ states n → ⊥)
-        → onlyIf v (cond short t (tableFor text ++ drop (length (tableFor text)) t)) t ≡ t
-    go fine true none = refl
-    go fine false none = absurd (none _ refl)
-    go (fault n line) short none = refl
-
-code : (o r s : ℕ) (buffer : List ℕ) (n : ℕ) → writeOf o r s buffer ≡ refused n → afterWrite o r s buffer ≡ buffer
-unfolding afterWrite
-code o r s buffer n e = ap (written (codeBytes o r s) buffer) e
-
-line : (text buffer : List ℕ) (n : ℕ) → printOf text buffer ≡ refused n → afterPrint text buffer ≡ buffer
-unfolding afterPrint
-line text buffer n e = ap (printed text buffer) e
+    go : (v : Verdict) (short : Bool) → ltb (length t) (length (tableFor text)) ≡ short
+        → ((n : ℕ) → unless v (cond short (Compiler.refused (numberOf Room)) (states (2 * length (tokenBytes (linesOf text))))) ≡ states n → ⊥) → afterCall (accepted v (tableFor text)) t ≡ t
+    go fine true e none = rw e refl
+    go fine false e none = absurd (none _ refl)
+    go (fault n line) short e none = refl
 
 -- ---- calls from C
 module _ {A : Type 0} where
@@ -79,11 +60,11 @@ compiled text table x out y status c some = by-verdict (verdict text) c
     values = (tableFor text, countValues (2 * length (tokenBytes (linesOf text))))
 
     by-verdict : (v : Verdict)
-        → (status ≡ 256 * faultLine v + statusOf (firstOf (compileBy v values) out) table) × (x ≡ afterCall (firstOf (compileBy v values) out) table)
-        × (y ≡ afterCall (secondOf (compileBy v values) table) out)
+        → (status ≡ 256 * faultLine v + statusOf (firstOf (accepted v values) out) table) × (x ≡ afterCall (firstOf (accepted v values) out) table)
+        × (y ≡ afterCall (secondOf (accepted v values) table) out)
         → (x ≡ table) × (y ≡ out)
     by-verdict fine d = slices (told values) table x out y status (d .0 ∙ zero-add _, d .1, d .2) some
     by-verdict (fault n line) d = (d .1, d .2)
 
 pub lent-buffers : LentBuffers
-lent-buffers = record { word = word; table = table; code = code; line = line; slice = slice; slices = slices; compiled = compiled }
+lent-buffers = record { buffer = λ call buffer n. counted-kept call buffer; table = table; slice = slice; slices = slices; compiled = compiled }

@@ -18,6 +18,7 @@ use Rattle.triple.specs.Refusals.{Told, told, refused, numberOf, refuse, _>>=_}
 use Rattle.triple.specs.Triples.{goodSum, inBounds, parityOf, flavorOf}
 use Rattle.triple.specs.Orientations.{curvePlace}
 use Rattle.triple.specs.Domain.{domainOf}
+use Rattle.triple.specs.Lent.{countOf}
 use Rattle.turtle.specs.declared.AB.{AB}
 use Rattle.turtle.specs.Corners.{cornerSumOf, tripleOf}
 use Rattle.turtle.proofs.CornerLaws.{inverse-refused}
@@ -25,7 +26,6 @@ use Rattle.text.specs.Words.{wordsOf}
 use Rattle.grammar.specs.Texts.{Row, linesOf, rowsOf}
 use Rattle.grammar.specs.Curves.{tokenBytes}
 use Rattle.grammar.specs.Tests.{Verdict, fine, fault, faultAt, first, badShape, badMotif, badRule, badCount, badHeading, badDraw, badTurns, badNet, someRows, lineTests, textTests}
-use Rattle.grammar.specs.WordAnswers.{writtenTo}
 use Rattle.tables.specs.Compiler.{unless, states, compiledTo, tableFor}
 use Rattle.tables.specs.Compiler as Compiler
 use Rattle.tables.specs.Descent.{goodTable, descentOf}
@@ -37,15 +37,14 @@ use Rattle.nodes.specs.declared.Node.{Node}
 use Rattle.nodes.specs.Nodes.{goodNode, childCell, bounded, stepTo, childStepOf, nodeOf}
 use Rattle.nodes.specs.NodeAnswers.{axiomNodeOf}
 use Rattle.curve.specs.Points.{near, pointOf}
-use Rattle.code.specs.Codes.{allBits, valueOf, codeLength, writeOf, readOf}
+use Rattle.code.specs.Codes.{allBits, valueOf, codeLength, codeOf, readOf}
 use Rattle.query.specs.declared.Query.{Query}
 use Rattle.text.specs.Decimals.{u8, u64, i32}
 use Rattle.text.specs.Patterns.{f64}
 use Rattle.query.specs.Queries.{answerOf}
-use Rattle.query.specs.Prints.{printOf}
 use Rattle.query.specs.Lines.{number, positionRest, cellRest, pointRest, headed, starts, queryOf}
 use Rattle.demands.specs.Demands.{isAmong, AnsweredOr, answer, refusal, CompiledOr, Refusals}
-use Rattle.demands.proofs.ToldLaws.{by-test, by-choice, by-step, by-answer}
+use Rattle.demands.proofs.ToldLaws.{by-test, by-room, by-choice, by-step, by-answer}
 
 -- ---- triples
 domain : (o r : ℕ) → AnsweredOr (1 ∷ 2 ∷ []) (domainOf o r)
@@ -118,9 +117,8 @@ unfolding pointOf numberOf
 point r i j resolution far = by-test (ltb 30 r) Is.Resolution resolution λ k. by-test (not (near i && near j)) Is.Point far λ n. answer
 
 -- ---- grammars
-word : (word buffer : List ℕ) → AnsweredOr (10 ∷ []) (writtenTo word buffer)
-unfolding writtenTo numberOf
-word w buffer = by-test (ltb (length buffer) (length w)) Is.Room tt λ room. answer
+word : (word buffer : List ℕ) → AnsweredOr (10 ∷ []) (countOf (told word) buffer)
+word w buffer = by-room buffer tt answer
 
 -- nothing against the text, or a number from 12 to 20
 data Judged : Verdict → Type 0 where
@@ -166,13 +164,13 @@ descent table n r token s =
     by-test (leb (4 ^ r) s) Is.Position tt λ l. answer
 
 -- ---- codes
-writing : (o r s : ℕ) (buffer : List ℕ) → AnsweredOr (1 ∷ 2 ∷ 3 ∷ 10 ∷ []) (writeOf o r s buffer)
-unfolding writeOf numberOf
+writing : (o r s : ℕ) (buffer : List ℕ) → AnsweredOr (1 ∷ 2 ∷ 3 ∷ 10 ∷ []) (countOf (codeOf o r s) buffer)
+unfolding codeOf numberOf
 writing o r s buffer =
-    by-test (ltb 30 r) Is.Resolution tt λ k.
+    by-room buffer tt
+    (by-test (ltb 30 r) Is.Resolution tt λ k.
     by-test (ltb 5 o) Is.Orientation tt λ h.
-    by-test (leb (4 ^ r) s) Is.Position tt λ l.
-    by-test (ltb (length buffer) (codeLength r)) Is.Room tt λ room. answer
+    by-test (leb (4 ^ r) s) Is.Position tt λ l. answer)
 
 reading : (bytes : List ℕ) → AnsweredOr (11 ∷ 1 ∷ 2 ∷ []) (readOf bytes)
 unfolding readOf numberOf
@@ -212,9 +210,8 @@ query (Query.Point o r i j) =
     by-test (ltb 5 o) Is.Orientation tt λ h.
     by-step (point r i j tt tt) λ t. by-step (position o r t tt tt tt tt) λ p. answer
 
-print : (text buffer : List ℕ) → AnsweredOr (10 ∷ []) (printOf text buffer)
-unfolding printOf numberOf
-print text buffer = by-test (ltb (length buffer) (length text)) Is.Room tt λ room. answer
+print : (text buffer : List ℕ) → AnsweredOr (10 ∷ []) (countOf (told text) buffer)
+print text buffer = by-room buffer tt answer
 
 pub refusals : Refusals
 refusals = record {

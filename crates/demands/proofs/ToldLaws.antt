@@ -4,9 +4,12 @@ use mathlib.Core.Bool.{Bool, true, false, cond}
 use mathlib.Core.List.{List}
 use Prim.Native.Nat.{ℕ}
 use native.Mathlib.Omega.{arith}
-use lib.Dec.{T}
+use lib.Dec.{T, ltb}
+use lib.ListN.{length}
 use Rattle.triple.specs.declared.refusal.Refusal.{Refusal}
 use Rattle.triple.specs.Refusals.{Told, told, refused, numberOf, refuse, _>>=_}
+use Rattle.triple.specs.declared.refusal.Refusal.the-variants.{Room}
+use Rattle.triple.specs.Lent.{countOf}
 use Rattle.demands.specs.Demands.{isAmong, AnsweredOr, answer, refusal}
 
 pub told-same : {A : Type 0} {a b : A} → told a ≡ told b → a ≡ b
@@ -20,11 +23,6 @@ pub answered : {A B : Type 0} {f : A → B} (t : Told A) {b : B} → (t >>= λ a
 answered (told a) e = (a, refl, cc)
 answered (refused n) e = absurd (told-refused e refl)
 
--- where an answer stands behind a test, the test did not hold
-pub passed : {A : Type 0} (e : Refusal) (t : Told A) {a : A} (test : Bool) → refuse test e t ≡ told a → (test ≡ false) × (t ≡ told a)
-passed e t true p = absurd (told-refused p refl)
-passed e t false p = (refl, p)
-
 -- ---- the numbers of a call's refusals: those of its tests, and of its steps
 pub by-test : {A : Type 0} {numbers : List ℕ} {t : Told A} (test : Bool) (e : Refusal) → T (isAmong (numberOf e) numbers) → (test ≡ false → AnsweredOr numbers t) → AnsweredOr numbers (refuse test e t)
 by-test true e among next = refusal among
@@ -33,6 +31,11 @@ by-test false e among next = next refl
 pub by-step : {A B : Type 0} {numbers : List ℕ} {t : Told A} {f : A → Told B} → AnsweredOr numbers t → ((a : A) → AnsweredOr numbers (f a)) → AnsweredOr numbers (t >>= f)
 by-step (answer {a}) next = next a
 by-step (refusal among) next = refusal among
+
+pub by-room : {A : Type 0} {numbers : List ℕ} {call : Told (List A)} (buffer : List A) → T (isAmong 10 numbers) → AnsweredOr numbers call → AnsweredOr numbers (countOf call buffer)
+unfolding countOf numberOf
+by-room buffer among (answer {a}) = by-test (ltb (length buffer) (length a)) Room among λ room. answer
+by-room buffer among (refusal n) = refusal n
 
 pub by-choice : {A : Type 0} {numbers : List ℕ} {t u : Told A} (b : Bool) → AnsweredOr numbers t → AnsweredOr numbers u → AnsweredOr numbers (cond b t u)
 by-choice true h k = h

@@ -13,12 +13,12 @@ use Rattle.triple.specs.declared.Triple.{Triple}
 use Rattle.triple.specs.Refusals.{Told, told, refused, _>>=_}
 use Rattle.triple.specs.Triples.{inBounds, parityOf, closedFlavor, flavorOf}
 use Rattle.triple.specs.Domain.{domainOf}
+use Rattle.triple.specs.Lent.{countOf, afterCall, Called, CalledBoth}
 use Rattle.turtle.specs.declared.AB.{AB}
 use Rattle.turtle.specs.declared.walk.DrawnCell.{DrawnCell}
 use Rattle.turtle.specs.Corners.{cornerSumOf, tripleOf, HasTriple}
 use Rattle.grammar.specs.Texts.{linesOf}
 use Rattle.grammar.specs.Curves.{drawing, tokenBytes, letterOf}
-use Rattle.grammar.specs.WordAnswers.{writtenTo, afterWord}
 use Rattle.tables.specs.Children.{noCell}
 use Rattle.tables.specs.Table.{leafOf}
 use Rattle.tables.specs.Compiler.{Compiled, states, compiledTo, afterCompile}
@@ -33,12 +33,10 @@ use Rattle.nodes.specs.Nodes.{goodNode, childStepOf, nodeOf}
 use Rattle.nodes.specs.NodeAnswers.{axiomNodeOf}
 use Rattle.nodes.specs.NodeWalks.{walkedNode, lastStep}
 use Rattle.curve.specs.Points.{pointOf}
-use Rattle.code.specs.Codes.{writeOf, afterWrite, readOf}
+use Rattle.code.specs.Codes.{codeOf, readOf}
 use Rattle.query.specs.declared.Query.{Query}
 use Rattle.query.specs.Queries.{answerOf}
 use Rattle.query.specs.Lines.{queryOf}
-use Rattle.query.specs.Prints.{printOf, afterPrint}
-use Rattle.capi.specs.Lent.{Called, CalledBoth}
 use Rattle.capi.specs.Calls.{CompileCalled}
 use Rattle.demands.specs.Dozen.{Dozen}
 
@@ -83,13 +81,13 @@ pub record Refusals : Type 0 where
   -- a point's triple
   pub point : (r : ℕ) (i j : Float) → AnsweredOr (1 ∷ 9 ∷ []) (pointOf r i j)
   -- a word, reversed or expanded, written to a buffer
-  pub word : (word buffer : List ℕ) → AnsweredOr (10 ∷ []) (writtenTo word buffer)
+  pub word : (word buffer : List ℕ) → AnsweredOr (10 ∷ []) (countOf (told word) buffer)
   -- a text compiled into a table
   pub compiler : (text : List ℕ) (table : List ℤ) → CompiledOr (compiledTo text table)
   -- a table descended, whoever wrote it
   pub descent : (table : List ℤ) (n r token s : ℕ) → AnsweredOr (1 ∷ 22 ∷ 3 ∷ []) (descentOf table n r token s)
   -- a code written
-  pub writing : (o r s : ℕ) (buffer : List ℕ) → AnsweredOr (1 ∷ 2 ∷ 3 ∷ 10 ∷ []) (writeOf o r s buffer)
+  pub writing : (o r s : ℕ) (buffer : List ℕ) → AnsweredOr (1 ∷ 2 ∷ 3 ∷ 10 ∷ []) (countOf (codeOf o r s) buffer)
   -- a code read: 11 where it is empty, and after 2 where it is cut short
   pub reading : (bytes : List ℕ) → AnsweredOr (11 ∷ 1 ∷ 2 ∷ []) (readOf bytes)
   -- the query of a line
@@ -97,18 +95,14 @@ pub record Refusals : Type 0 where
   -- the answer to a query: the numbers of all three kinds
   pub query : (q : Query) → AnsweredOr (1 ∷ 2 ∷ 3 ∷ 4 ∷ 5 ∷ 9 ∷ []) (answerOf q)
   -- a line printed
-  pub print : (text buffer : List ℕ) → AnsweredOr (10 ∷ []) (printOf text buffer)
+  pub print : (text buffer : List ℕ) → AnsweredOr (10 ∷ []) (countOf (told text) buffer)
 
 -- ---- lent buffers: a refused call changes none
 pub record LentBuffers : Type 1 where
-  -- that of a word
-  pub word : (word buffer : List ℕ) (n : ℕ) → writtenTo word buffer ≡ refused n → afterWord word buffer ≡ buffer
+  -- that of a word, of a code, or of a line
+  pub buffer : {A : Type 0} (call : Told (List A)) (buffer : List A) (n : ℕ) → countOf call buffer ≡ refused n → afterCall call buffer ≡ buffer
   -- the table that is lent to the compiler
   pub table : (text : List ℕ) (table : List ℤ) → ((n : ℕ) → compiledTo text table ≡ states n → ⊥) → afterCompile text table ≡ table
-  -- that of a code
-  pub code : (o r s : ℕ) (buffer : List ℕ) (n : ℕ) → writeOf o r s buffer ≡ refused n → afterWrite o r s buffer ≡ buffer
-  -- that of a line
-  pub line : (text buffer : List ℕ) (n : ℕ) → printOf text buffer ≡ refused n → afterPrint text buffer ≡ buffer
   -- the slice of a call from C, where its status is not 0
   pub slice : {A : Type 0} (call : Told (List A)) (slice after : List A) (status : ℕ) → Called call slice status after → (status ≡ 0 → ⊥) → after ≡ slice
   -- both slices of one that has two
@@ -185,9 +179,9 @@ pub record Code (o r s : ℕ) (buffer : List ℕ) (n : ℕ) : Type 0 where
   -- its length is 1 + ceil (r / 4)
   pub long : n ≡ 1 + (r + 3) / 4
   -- no byte past it is touched
-  pub past : drop n (afterWrite o r s buffer) ≡ drop n buffer
+  pub past : drop n (afterCall (codeOf o r s) buffer) ≡ drop n buffer
   -- it reads back, whatever follows it
-  pub back : readOf (afterWrite o r s buffer) ≡ told (record { orientation = o; resolution = r; s = s; used = n })
+  pub back : readOf (afterCall (codeOf o r s) buffer) ≡ told (record { orientation = o; resolution = r; s = s; used = n })
 
 -- ---- ALL THAT WAS ASKED
 pub record Demands : Type 1 where
@@ -208,6 +202,6 @@ pub record Demands : Type 1 where
   -- of A5's text it answers 28, whatever table has the room
   pub a5 : (table : List ℤ) → 41 * 28 ≤ length table → compiledTo a5Text table ≡ states 28
   -- for everything that the writer answers, whatever its buffer held
-  pub codes : (o r s : ℕ) (buffer : List ℕ) (n : ℕ) → writeOf o r s buffer ≡ told n → Code o r s buffer n
+  pub codes : (o r s : ℕ) (buffer : List ℕ) (n : ℕ) → countOf (codeOf o r s) buffer ≡ told n → Code o r s buffer n
   -- the twelve worked examples
   pub dozen : Dozen

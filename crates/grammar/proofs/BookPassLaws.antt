@@ -11,11 +11,12 @@ use lib.ListN.{length, getD, take, drop, length-append, length-take}
 use lib.Seq.{take-at}
 use borrow.Author.Tests.{le-ltb}
 use Rattle.triple.specs.Refusals.{told}
+use Rattle.triple.specs.Lent.{countOf, afterCall}
 use Rattle.grammar.specs.declared.lines.Lines.{Lines}
 use Rattle.grammar.specs.declared.word.Book.{Book}
 use Rattle.grammar.specs.declared.word.WordAnswer.{WordAnswer}
 use Rattle.grammar.specs.Words.{upper, reversedOrSelf, byBook, wordOf, expandOnce}
-use Rattle.grammar.specs.WordAnswers.{saidWord, written, writtenTo, afterWord}
+use Rattle.grammar.specs.WordAnswers.{saidWord, written}
 use Rattle.grammar.specs.Books.{rowWord, rowsWord, bookOf}
 use Rattle.grammar.specs.Curves.{rules, draws}
 use Rattle.grammar.specs.Inside.Places.{linesFrom, linesBy, Sized}
@@ -93,21 +94,21 @@ module _ (text : List ℕ) (ls : Lines) (sized : Sized ls) where
   draw-pass-most w = pass-most (draws (linesFrom text ls (min (ls .count) 8) 0)) 12 (omega arith) (each-draw-most (min (ls .count) 8) 0) w
 
 -- ---- a word that a call wrote, as there was room for it: the first n bytes that the buffer has then
-module _ (word buffer : List ℕ) (a : WordAnswer) {last : List ℕ} (wrote : (saidWord a ≡ writtenTo word buffer) × (last ≡ afterWord word buffer))
+module _ (word buffer : List ℕ) (a : WordAnswer) {last : List ℕ} (wrote : (saidWord a ≡ countOf (told word) buffer) × (last ≡ afterCall (told word) buffer))
     {n : ℕ} (count : n ≡ written (saidWord a)) (room : length word ≤ length buffer) where
   count-is : n ≡ length word
-  unfolding writtenTo
+  unfolding countOf
   count-is =
       let said : saidWord a ≡ told (length word) = wrote .0 ∙ (rw (le-ltb (length buffer) (length word) room) refl) in
       count ∙ ap written said
 
   wrote-word : take n last ≡ word
-  unfolding afterWord
+  unfolding afterCall
   wrote-word = rw (count-is, wrote .1, le-ltb (length buffer) (length word) room) (take-at word (drop (length word) buffer) (length word) refl)
 
 -- ---- a pass by the lines' books that found room, and is cut off behind its last byte
 module _ (text : List ℕ) {ls : Lines} (sized : Sized ls) {book : Book} (w buffer : List ℕ) (a : WordAnswer) {last : List ℕ}
-    (said : saidWord a ≡ writtenTo (expandOnce (bookOf text book) w) buffer) (left : last ≡ afterWord (expandOnce (bookOf text book) w) buffer) {n : ℕ} (count : n ≡ written (saidWord a)) where
+    (said : saidWord a ≡ countOf (told (expandOnce (bookOf text book) w)) buffer) (left : last ≡ afterCall (told (expandOnce (bookOf text book) w)) buffer) {n : ℕ} (count : n ≡ written (saidWord a)) where
   module _ (book-is : book ≡ ruleBook ls) (room : 24 * length w ≤ length buffer) where
     rule-pass : expandOnce (bookOf text book) w ≡ expandOnce (rules (linesBy text ls)) w
     rule-pass = rw (book-is, book-rules text ls) refl

@@ -11,12 +11,14 @@ use lib.Seq.{take-all, take-suc, drop-cons}
 use borrow.Rule.Slice.PartMut.{putMid}
 use borrow.Author.Tests.{le-leb, lt-leb}
 use mathlib.Core.Option.{Option}
+use Rattle.triple.specs.Refusals.{told}
+use Rattle.triple.specs.Lent.{countOf, afterCall}
+use Rattle.triple.proofs.LentLaws.{count-whole}
 use Rattle.whole.proofs.Fill.{fronted, length-fronted, fronted-back}
 use Rattle.grammar.specs.declared.word.WordAnswer.the-variants.{Written}
 use Rattle.grammar.specs.Words.{wordOf, expandOnce}
-use Rattle.grammar.specs.WordAnswers.{saidWord, writtenTo, afterWord}
+use Rattle.grammar.specs.WordAnswers.{saidWord}
 use Rattle.grammar.proofs.ReversalLaws.{pass-append}
-use Rattle.grammar.proofs.WordByteLaws.{written}
 
 -- ---- one pass
 
@@ -100,8 +102,8 @@ module _ {book : ℕ → Option (List ℕ)} {s d out : List ℕ} {at i : ℕ} (b
           so-far = e;
         }
 
-  pub passed-all : length s ≤ i → (saidWord (Written at) ≡ writtenTo (expandOnce book s) d) × (out ≡ afterWord (expandOnce book s) d)
+  pub passed-all : length s ≤ i → (saidWord (Written at) ≡ countOf (told (expandOnce book s)) d) × (out ≡ afterCall (told (expandOnce book s)) d)
   passed-all h =
       let all = take-all i s h in
       let end : at ≡ length (expandOnce book s) = rw all at (before .place) in
-      written (expandOnce book s) d (sym end) (omega arith) (rw (end, before .so-far, all) refl)
+      count-whole (expandOnce book s) d (sym end) (omega arith) (rw (end, before .so-far, all) refl)

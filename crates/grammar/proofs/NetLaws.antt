@@ -10,6 +10,8 @@ use lib.Dec.{eqb}
 use lib.IntN.{pos}
 use lib.ListN.{length, getD, take, drop, length-take}
 use lib.Seq.{take-suc, take-all}
+use Rattle.triple.specs.Refusals.{told}
+use Rattle.triple.specs.Lent.{countOf, afterCall}
 use Rattle.whole.proofs.Bools.{is-true, is-false}
 use Rattle.whole.proofs.View.{view, v-var, le-by, le-of}
 use Rattle.turtle.specs.declared.AB.{AB}
@@ -32,7 +34,7 @@ use Rattle.grammar.specs.declared.lines.Lines.{Lines}
 use Rattle.grammar.specs.declared.word.Book.{Book}
 use Rattle.grammar.specs.declared.word.WordAnswer.{WordAnswer}
 use Rattle.grammar.specs.Words.{expandOnce}
-use Rattle.grammar.specs.WordAnswers.{saidWord, written, writtenTo, afterWord}
+use Rattle.grammar.specs.WordAnswers.{saidWord, written}
 use Rattle.grammar.specs.Books.{bookOf}
 use Rattle.grammar.specs.Texts.{Line}
 use Rattle.grammar.specs.Curves.{rules, draws, passes, strokes, net}
@@ -171,7 +173,7 @@ twice-not p q h = is-false (equalAB p q) (λ t. h (equal-pairs p q t))
 -- ---- the nets
 -- the draws of a word, into a buffer with room for twelve bytes each
 module _ (text : List ℕ) {ls : Lines} (sized : Sized ls) (w : List ℕ) (few : length w ≤ 576) {book : Book} (book-is : book ≡ drawBook ls) (buffer : List ℕ) (a : WordAnswer) {last : List ℕ}
-    (said : saidWord a ≡ writtenTo (expandOnce (bookOf text book) w) buffer) (left : last ≡ afterWord (expandOnce (bookOf text book) w) buffer) {n : ℕ} (count : n ≡ written (saidWord a)) (room : 6912 ≤ length buffer)
+    (said : saidWord a ≡ countOf (told (expandOnce (bookOf text book) w)) buffer) (left : last ≡ afterCall (told (expandOnce (bookOf text book) w)) buffer) {n : ℕ} (count : n ≡ written (saidWord a)) (room : 6912 ≤ length buffer)
     {v : List ℕ} (cut : v ≡ take n (drop 0 last)) where
   pub drawn-long : length v ≤ 8192
   drawn-long = draws-most text sized w buffer a said left count book-is (omega arith) cut (omega arith)

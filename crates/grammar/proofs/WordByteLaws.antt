@@ -1,5 +1,5 @@
--- Words of bytes in the form of what the code has in hand: a byte by the range that it is in, a word's reversal place by place,
--- and what a call that writes a word answers.
+-- Words of bytes in the form of what the code has in hand: a byte by the range that it is in, and a word's reversal
+-- place by place.
 use mathlib.Core.Path.{_≡_, refl, sym, ap, _∙_}
 use mathlib.Core.Bool.{Bool, true, false, not, _&&_}
 use mathlib.Core.List.{List, _++_, map}
@@ -7,12 +7,9 @@ use Prim.Native.Nat.{ℕ, _+_, _-_, _≤_, _<_}
 use native.Mathlib.Omega.{arith}
 use lib.Dec.{leb, eqb}
 use lib.ListN.{length, getD, drop, length-reverse, length-map, List·getD-map}
-use borrow.Author.Tests.{leb-true, leb-false, not-true, not-false, le-leb, lt-leb, lt-ltb, le-ltb, ne-eqb}
-use Rattle.triple.specs.declared.refusal.Refusal.the-variants.{Room}
+use borrow.Author.Tests.{leb-true, leb-false, not-true, not-false, le-leb, lt-leb, ne-eqb}
 use Rattle.whole.proofs.Fill.{getD-reverse}
-use Rattle.grammar.specs.declared.word.WordAnswer.the-variants.{Written, Refused}
 use Rattle.grammar.specs.Words.{upper, mirrored, reversed}
-use Rattle.grammar.specs.WordAnswers.{saidWord, writtenTo, afterWord}
 use Rattle.grammar.proofs.ReversalLaws.{upper-other, mirrored-big, mirrored-other}
 
 -- ---- bytes
@@ -89,13 +86,3 @@ enough {r} m n e t = leb-true m n (sym e ∙ not-false r t)
 
 pub lacking : {r : Bool} (m n : ℕ) → r ≡ leb m n → not r ≡ true → n < m
 lacking {r} m n e t = leb-false m n (sym e ∙ not-true r t)
-
--- k is the word's length
-module _ (w d : List ℕ) {k : ℕ} where
-  pub short : length w ≡ k → length d < k → (saidWord (Refused Room) ≡ writtenTo w d) × (d ≡ afterWord w d)
-  unfolding writtenTo afterWord
-  short e h = simp (e, lt-ltb (length d) k h) (refl, refl)
-
-  pub written : {x : List ℕ} → length w ≡ k → k ≤ length d → x ≡ w ++ drop k d → (saidWord (Written k) ≡ writtenTo w d) × (x ≡ afterWord w d)
-  unfolding writtenTo afterWord
-  written e h f = simp (e, le-ltb (length d) k h) (refl, f)

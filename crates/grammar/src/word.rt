@@ -5,8 +5,10 @@ ghost use mathlib.Core.List.{_++_};
 ghost use Prim.Native.Nat.{_≤_, min};
 ghost use lib.Dec.{leb};
 ghost use lib.ListN.{length, take, drop};
+ghost use Rattle.triple.specs.Refusals.{told};
+ghost use Rattle.triple.specs.Lent.{countOf, afterCall};
 ghost use Rattle.grammar.specs.Words.{upper, mirrored, reversed, wordOf, expandOnce};
-ghost use Rattle.grammar.specs.WordAnswers.{saidWord, written, writtenTo, afterWord};
+ghost use Rattle.grammar.specs.WordAnswers.{saidWord, written};
 ghost use Rattle.grammar.specs.Books.{bookOf};
 ghost use Rattle.grammar.specs.Inside.Replacements.{partWord, PartWithin, foundWord, FoundWithin, replacementWord, ReplacementWithin};
 use triple::refusal::Refusal;
@@ -104,7 +106,7 @@ fn write_back(s: &[u8], out: &mut [u8])
 
 // The word traced from its end to its start.
 pub fn reverse_motif(s: &[u8], out: &mut [u8]) -> WordAnswer
-    ensures { λ r. ⌜ (saidWord r ≡ writtenTo (reversed (now (s .entry))) (now (out .entry))) × (now (out .exit) ≡ afterWord (reversed (now (s .entry))) (now (out .entry))) ⌝ }
+    ensures { λ r. ⌜ (saidWord r ≡ countOf (told (reversed (now (s .entry)))) (now (out .entry))) × (now (out .exit) ≡ afterCall (told (reversed (now (s .entry)))) (now (out .entry))) ⌝ }
 {
     if out.len() < s.len() {
         return WordAnswer::Refused(Refusal::Room);
@@ -226,7 +228,7 @@ fn has_room(words: &[u8], book: Book, s: &[u8], room: usize) -> bool
 // One expansion pass: each byte that the book has becomes its word, each lowercase letter whose
 // uppercase letter the book has becomes that word reversed, and any other byte stays.
 pub fn expand_once(words: &[u8], book: Book, s: &[u8], out: &mut [u8]) -> WordAnswer
-    ensures { λ r. ⌜ (saidWord r ≡ writtenTo (expandOnce (bookOf (now (words .entry)) book) (now (s .entry))) (now (out .entry))) × (now (out .exit) ≡ afterWord (expandOnce (bookOf (now (words .entry)) book) (now (s .entry))) (now (out .entry))) ⌝ }
+    ensures { λ r. ⌜ (saidWord r ≡ countOf (told (expandOnce (bookOf (now (words .entry)) book) (now (s .entry)))) (now (out .entry))) × (now (out .exit) ≡ afterCall (told (expandOnce (bookOf (now (words .entry)) book) (now (s .entry)))) (now (out .entry))) ⌝ }
 {
     if !has_room(words, book, s, out.len()) {
         return WordAnswer::Refused(Refusal::Room);

@@ -10,13 +10,14 @@ use Rattle.triple.specs.Refusals.{Told, told, refused, numberOf, _>>=_}
 use Rattle.triple.specs.Domain.{domainOf}
 use Rattle.triple.specs.Answers.{saidDomain}
 use Rattle.triple.proofs.DomainLaws.{out-of-domain, in-domain}
+use Rattle.triple.specs.Lent.{countOf, afterCall}
 use Rattle.curve.specs.declared.PointAnswer.{PointAnswer}
 use Rattle.curve.specs.Answers.{saidPoint}
 use Rattle.curve.specs.Points.{pointOf}
 use Rattle.query.specs.declared.Query.{Query}
 use Rattle.query.specs.declared.Found.{Found}
 use Rattle.query.specs.Lines.{queryOf, answerLine}
-use Rattle.query.specs.Prints.{foundText, printOf, afterPrint}
+use Rattle.query.specs.Prints.{foundText}
 use Rattle.query.specs.Queries.{pointFound, answerOf}
 
 -- ---- an answer, and what is made of it
@@ -54,5 +55,5 @@ module _ (line : List ℕ) {given : Told Query} (answers : given ≡ queryOf lin
   unfolding answerLine
   line-refused e = rw (sym answers, e)
 
-pub printed-as : {text line : List ℕ} → text ≡ line → {a : Told ℕ} (buffer : List ℕ) {after : List ℕ} → (a ≡ printOf text buffer) × (after ≡ afterPrint text buffer) → (a ≡ printOf line buffer) × (after ≡ afterPrint line buffer)
-printed-as e {a} buffer {after} p = subst (λ text. (a ≡ printOf text buffer) × (after ≡ afterPrint text buffer)) e p
+pub printed-as : {text line : List ℕ} → text ≡ line → {a : Told ℕ} (buffer : List ℕ) {after : List ℕ} → (a ≡ countOf (told text) buffer) × (after ≡ afterCall (told text) buffer) → (a ≡ countOf (told line) buffer) × (after ≡ afterCall (told line) buffer)
+printed-as e {a} buffer {after} p = subst (λ text. (a ≡ countOf (told text) buffer) × (after ≡ afterCall (told text) buffer)) e p

@@ -3,13 +3,15 @@ use mathlib.Core.Path.{_≡_, refl, sym, ap, _∙_}
 use mathlib.Core.List.{List}
 use Prim.Native.Nat.{ℕ}
 use Rattle.triple.proofs.Determined.{one-to-one, determined, numbered, answerOf}
+use Rattle.triple.specs.Refusals.{told}
+use Rattle.triple.specs.Lent.{countOf, afterCall}
 use Rattle.query.specs.declared.QueryAnswer.{QueryAnswer}
 use Rattle.query.specs.declared.FoundAnswer.{FoundAnswer}
 use Rattle.query.specs.declared.print.PrintAnswer.{PrintAnswer}
 use Rattle.query.specs.declared.Query.{Query}
 use Rattle.query.specs.Lines.{queryOf, answerLine}
 use Rattle.query.specs.Queries as Queries
-use Rattle.query.specs.Prints.{foundText, printOf, afterPrint}
+use Rattle.query.specs.Prints.{foundText}
 use Rattle.query.specs.Answers.{saidQuery, saidFound, saidPrint}
 
 -- ---- the answers
@@ -43,7 +45,7 @@ answer-determined q = determined saidFound said-found-one-to-one
 
 -- the answer, and every byte of the buffer
 abbrev Prints : List ℕ → List ℕ → PrintAnswer → List ℕ → Type 0
-Prints text buffer p after = (saidPrint p ≡ printOf text buffer) × (after ≡ afterPrint text buffer)
+Prints text buffer p after = (saidPrint p ≡ countOf (told text) buffer) × (after ≡ afterCall (told text) buffer)
 
 prints-once : (text buffer : List ℕ) (p q : PrintAnswer) (x y : List ℕ) → Prints text buffer p x → Prints text buffer q y → (p ≡ q) × (x ≡ y)
 prints-once text buffer p q x y a b = (determined saidPrint said-print-one-to-one p q (a .0) (b .0), a .1 ∙ sym (b .1))

@@ -16,6 +16,7 @@ use Rattle.triple.specs.declared.Triple.{Triple}
 use Rattle.triple.specs.declared.refusal.Refusal.{Refusal}
 use Rattle.triple.specs.declared.refusal.Refusal.the-variants as Is
 use Rattle.triple.specs.Refusals.{told, refused, numberOf}
+use Rattle.triple.specs.Lent.{countOf, afterCall}
 use Rattle.text.specs.Words.{spaced}
 use Rattle.text.specs.Decimals.{natural, integer}
 use Rattle.text.specs.Puts.{Put}
@@ -26,7 +27,7 @@ use Rattle.lsystem.specs.declared.Position.{Position}
 use Rattle.query.specs.declared.Found.{Found}
 use Rattle.query.specs.declared.FoundAnswer.{FoundAnswer}
 use Rattle.query.specs.Lines.{tripleWords, foundWords}
-use Rattle.query.specs.Prints.{foundText, printOf, afterPrint}
+use Rattle.query.specs.Prints.{foundText}
 use Rattle.query.specs.Answers.{saidFound}
 use Rattle.query.specs.Inside.Printing.{Printed}
 
@@ -143,12 +144,12 @@ module _ (text zeros aside : List ℕ) (n : ℕ) (w : Printed 60 zeros text asid
       short : length out < length text
       short = omega (arith, put-short out after 0 e text copied past)
 
-      pub refused-answer : refused (numberOf Is.Room) ≡ printOf text out
-      unfolding printOf
+      pub refused-answer : refused (numberOf Is.Room) ≡ countOf (told text) out
+      unfolding countOf
       refused-answer = simp (lt-ltb (length out) (length text) short)
 
-      pub refused-buffer : after ≡ afterPrint text out
-      unfolding printOf afterPrint
+      pub refused-buffer : after ≡ afterCall (told text) out
+      unfolding countOf afterCall
       refused-buffer = put-kept out after 0 e text copied past ∙ simp (lt-ltb (length out) (length text) short)
 
     module _ (h : e ≤ length after) where
@@ -161,12 +162,12 @@ module _ (text zeros aside : List ℕ) (n : ℕ) (w : Printed 60 zeros text asid
       at-end : e ≡ length text
       at-end = omega (arith, put-place out after 0 e text copied roomy)
 
-      pub told-answer : told e ≡ printOf text out
-      unfolding printOf
+      pub told-answer : told e ≡ countOf (told text) out
+      unfolding countOf
       told-answer = ap told at-end ∙ simp (le-ltb (length out) (length text) fits)
 
-      pub told-buffer : after ≡ afterPrint text out
-      unfolding printOf afterPrint
+      pub told-buffer : after ≡ afterCall (told text) out
+      unfolding countOf afterCall
       told-buffer =
           let q : 0 + length text ≡ length text = omega arith in
           put-stored out after 0 e text copied roomy ∙ sets-eq text out 0 roomy ∙ simp (q, le-ltb (length out) (length text) fits)

@@ -1,9 +1,10 @@
 // What a query finds, and a line's whole answer.
 ghost use mathlib.Core.Path.{_≡_};
+ghost use Rattle.triple.specs.Refusals.{told};
+ghost use Rattle.triple.specs.Lent.{countOf, afterCall};
 ghost use Rattle.query.specs.declared.Query.{Query};
 ghost use Rattle.query.specs.Answers.{saidFound, saidPrint};
 ghost use Rattle.query.specs.Lines.{answerLine};
-ghost use Rattle.query.specs.Prints.{printOf, afterPrint};
 ghost use Rattle.query.specs.Queries.{answerOf, pointFound};
 use crate::Found;
 use crate::FoundAnswer;
@@ -78,7 +79,7 @@ fn point_position(o: u8, r: u8, t: Triple) -> FoundAnswer
 
 // The answer to one line, without LF.
 pub fn answer_line(line: &[u8], out: &mut [u8]) -> PrintAnswer
-    ensures { λ p. ⌜ (saidPrint p ≡ printOf (answerLine (now (line .entry))) (now (out .entry))) × (now (out .exit) ≡ afterPrint (answerLine (now (line .entry))) (now (out .entry))) ⌝ }
+    ensures { λ p. ⌜ (saidPrint p ≡ countOf (told (answerLine (now (line .entry)))) (now (out .entry))) × (now (out .exit) ≡ afterCall (told (answerLine (now (line .entry)))) (now (out .entry))) ⌝ }
 {
     let read = read_line(line);
     match read {

@@ -6,10 +6,11 @@ ghost use lib.ListN.{length};
 ghost use Rattle.text.specs.Words.{spaced};
 ghost use Rattle.query.specs.declared.Found.{Found};
 ghost use Rattle.query.specs.Lines.{tripleWords};
-ghost use Rattle.query.specs.Prints.{foundText, printOf, afterPrint};
+ghost use Rattle.query.specs.Prints.{foundText};
 ghost use Rattle.query.specs.Answers.{saidFound, saidPrint};
 ghost use Rattle.query.specs.Inside.Printing.{Printed};
 ghost use Rattle.triple.specs.Refusals.{told};
+ghost use Rattle.triple.specs.Lent.{countOf, afterCall};
 use crate::Found;
 use crate::FoundAnswer;
 use lsystem::Position;
@@ -87,7 +88,7 @@ fn write(out: &mut [u8], found: FoundAnswer) -> usize
 
 // Answers the line's length. It is written aside first: a buffer that is too short stays as it is.
 pub fn print(found: FoundAnswer, out: &mut [u8]) -> PrintAnswer
-    ensures { λ p. ⌜ (saidPrint p ≡ printOf (foundText (saidFound found)) (now (out .entry))) × (now (out .exit) ≡ afterPrint (foundText (saidFound found)) (now (out .entry))) ⌝ }
+    ensures { λ p. ⌜ (saidPrint p ≡ countOf (told (foundText (saidFound found))) (now (out .entry))) × (now (out .exit) ≡ afterCall (told (foundText (saidFound found))) (now (out .entry))) ⌝ }
 {
     let mut text = [0u8; 60];
     let n = write(&mut text, found);

@@ -6,6 +6,7 @@ use lib.IntN.{ℤ}
 use lib.ListN.{length, getD, drop}
 use borrow.Author.Tests.{le-ltb}
 use Rattle.triple.specs.Refusals.{told}
+use Rattle.triple.specs.Lent.{afterCall}
 use Rattle.triple.proofs.Determined.{one-to-one, refusalOf, numbered}
 use Rattle.grammar.specs.Texts.{linesOf}
 use Rattle.grammar.specs.Curves.{drawing, tokenBytes, letterOf}
@@ -43,7 +44,7 @@ module _ (text : List ℕ) (p : verdict text ≡ fine) (table : List ℤ) (room 
   compiled-states = rw (p, le-ltb (length table) (length (tableFor text)) room) refl
 
   pub compiled-table : afterCompile text table ≡ tableFor text ++ drop (length (tableFor text)) table
-  unfolding afterCompile
+  unfolding afterCompile afterCall
   compiled-table = rw (p, le-ltb (length table) (length (tableFor text)) room) refl
 
   pub compiled-draws : (r m s : ℕ) → 1 ≤ r → r ≤ 30 → m < length (tokenBytes (linesOf text)) → s < 4 ^ r

@@ -11,6 +11,7 @@ use borrow.Author.Tests.{lt-ltb, le-ltb, ltb-true, ltb-false}
 use Rattle.triple.specs.declared.refusal.Refusal.{Refusal}
 use Rattle.triple.specs.declared.refusal.Refusal.the-variants.{Room, Split}
 use Rattle.triple.specs.Refusals.{numberOf}
+use Rattle.triple.specs.Lent.{afterCall}
 use Rattle.grammar.specs.declared.lines.Lines.{Lines}
 use Rattle.grammar.specs.declared.tests.TextAnswer.{TextAnswer}
 use Rattle.grammar.specs.Texts.{Row, Line, lineOf, rowsOf, linesOf}
@@ -45,7 +46,7 @@ module _ (text : List ℕ) {a : TextAnswer} (said : saidText a ≡ textTests tex
     text-faulty table = rw faulty-text refl
 
     pub text-kept : (table : List ℤ) → table ≡ afterCompile text table
-    unfolding afterCompile
+    unfolding afterCompile afterCall
     text-kept table = rw faulty-text refl
 
   pub text-ready : a ≡ TextAnswer.Fine → {ls : Lines} → ls ≡ scanOf text .lines → {s : Source} → s .lines ≡ ls → Holds 52 s → ((text : List ℕ) → lettersIn s ≡ tokenBytes (linesBy text ls)) → Ready text s
@@ -80,7 +81,7 @@ module _ {text : List ℕ} {s : Source} (ready : Ready text s) where
       split-faulty table = rw unsplit-is refl
 
       pub split-kept : (table : List ℤ) → table ≡ afterCompile text table
-      unfolding afterCompile
+      unfolding afterCompile afterCall
       split-kept table = rw unsplit-is refl
 
     module _ (none : k ≡ 0) where
@@ -96,7 +97,7 @@ module _ {text : List ℕ} {s : Source} (ready : Ready text s) where
         room-refused = rw (accepted-is, short) refl
 
         pub room-kept : table ≡ afterCompile text table
-        unfolding afterCompile
+        unfolding afterCompile afterCall
         room-kept = rw (accepted-is, short) refl
 
       module _ (table : List ℤ) (h : 82 * s .count ≤ length table) where
@@ -108,7 +109,7 @@ module _ {text : List ℕ} {s : Source} (ready : Ready text s) where
         room-states = rw (accepted-is, enough) (ap states (ap (λ n. 2 * n) (length-letters ready)))
 
         pub room-written : {last : List ℤ} → last ≡ tableFor text ++ drop (length (tableFor text)) table → last ≡ afterCompile text table
-        unfolding afterCompile
+        unfolding afterCompile afterCall
         room-written e = rw (accepted-is, enough) e
 
 pub ruleset by-source = (split-faulty, split-kept, room-refused, room-kept, room-states, room-written)

@@ -9,8 +9,10 @@ use native.Mathlib.Omega.{arith}
 use lib.ListN.{length, getD, take, drop, set, length-set, length-take, drop-of-length-le}
 use lib.Seq.{drop-cons, take-suc-set, length-take-le, getD-take}
 use borrow.Author.Tests.{eq-eqb, ne-eqb}
+use Rattle.triple.specs.Refusals.{told}
+use Rattle.triple.specs.Lent.{countOf, afterCall}
 use Rattle.grammar.specs.declared.word.WordAnswer.{WordAnswer}
-use Rattle.grammar.specs.WordAnswers.{saidWord, written, writtenTo, afterWord}
+use Rattle.grammar.specs.WordAnswers.{saidWord, written}
 use Rattle.grammar.specs.declared.lines.Lines.{Lines}
 use Rattle.turtle.specs.Walk.{symbolsOf}
 use Rattle.grammar.specs.declared.word.Book.{Book}
@@ -132,7 +134,7 @@ module _ (bytes : List ℕ) (n b i : ℕ) (room : n ≤ length bytes) where
 
 -- ---- the rule of a letter: a pass of the rules over it
 module _ (text : List ℕ) {ls : Lines} (sized : Sized ls) (letter : ℕ) {book : Book} (book-is : book ≡ ruleBook ls) (buffer : List ℕ) (a : WordAnswer) {last : List ℕ}
-    (said : saidWord a ≡ writtenTo (expandOnce (bookOf text book) (letter ∷ [])) buffer) (left : last ≡ afterWord (expandOnce (bookOf text book) (letter ∷ [])) buffer)
+    (said : saidWord a ≡ countOf (told (expandOnce (bookOf text book) (letter ∷ []))) buffer) (left : last ≡ afterCall (told (expandOnce (bookOf text book) (letter ∷ []))) buffer)
     {n : ℕ} (count : n ≡ written (saidWord a)) (room : 24 ≤ length buffer) where
   pub rule-written : take n last ≡ expandOnce (rules (linesBy text ls)) (letter ∷ [])
   rule-written = rules-written text sized (letter ∷ []) buffer a said left count book-is (omega arith)
@@ -143,7 +145,7 @@ module _ (text : List ℕ) {ls : Lines} (sized : Sized ls) (letter : ℕ) {book 
 -- ---- its strokes: one of the draws over that
 module _ (text : List ℕ) {ls : Lines} (sized : Sized ls) (letter k : ℕ) (rule : List ℕ) (filled : take k rule ≡ expandOnce (rules (linesBy text ls)) (letter ∷ [])) (few : k ≤ 24)
     {book : Book} (book-is : book ≡ drawBook ls) (buffer : List ℕ) (a : WordAnswer) {last : List ℕ}
-    (said : saidWord a ≡ writtenTo (expandOnce (bookOf text book) (take (k - 0) rule)) buffer) (left : last ≡ afterWord (expandOnce (bookOf text book) (take (k - 0) rule)) buffer)
+    (said : saidWord a ≡ countOf (told (expandOnce (bookOf text book) (take (k - 0) rule))) buffer) (left : last ≡ afterCall (told (expandOnce (bookOf text book) (take (k - 0) rule))) buffer)
     {n : ℕ} (count : n ≡ written (saidWord a)) (room : 288 ≤ length buffer) where
   rule-long : length (take (k - 0) rule) ≤ 24
   rule-long = rw length-take (omega arith)

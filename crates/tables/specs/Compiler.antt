@@ -1,12 +1,13 @@
 -- The compiler: the number of states of a text that is accepted, and its table at the front of what is lent; or a fault, or no room.
 use mathlib.Core.Bool.{cond}
-use mathlib.Core.List.{List, _++_}
+use mathlib.Core.List.{List}
 use Prim.Native.Nat.{ℕ, _*_}
 use lib.Dec.{ltb}
 use lib.IntN.{ℤ}
-use lib.ListN.{length, drop}
+use lib.ListN.{length}
 use Rattle.triple.specs.declared.refusal.Refusal.the-variants.{Room}
-use Rattle.triple.specs.Refusals.{numberOf}
+use Rattle.triple.specs.Refusals.{Told, told, numberOf}
+use Rattle.triple.specs.Lent.{afterCall}
 use Rattle.grammar.specs.Texts.{linesOf}
 use Rattle.grammar.specs.Curves.{tokenBytes}
 use Rattle.grammar.specs.Tests.{Verdict, fine, fault}
@@ -38,11 +39,11 @@ compiledTo text table =
     unless (verdict text)
     (cond (ltb (length table) (length (tableFor text))) (refused (numberOf Room)) (states (2 * length (tokenBytes (linesOf text)))))
 
--- the table at the front, and behind it what was there; as it was where the text is refused or does not find room
-abbrev pub onlyIf : Verdict → List ℤ → List ℤ → List ℤ
-onlyIf fine filled table = filled
-onlyIf (fault n line) filled table = table
+-- what is made of a text, where it is accepted
+abbrev pub accepted : {A : Type 0} → Verdict → A → Told A
+accepted fine made = told made
+accepted (fault n line) made = Told.refused n
 
+-- the table at the front, and behind it what was there; as it was where the text is refused or does not find room
 unfoldable pub afterCompile : List ℕ → List ℤ → List ℤ
-afterCompile text table =
-    onlyIf (verdict text) (cond (ltb (length table) (length (tableFor text))) table (tableFor text ++ drop (length (tableFor text)) table)) table
+afterCompile text table = afterCall (accepted (verdict text) (tableFor text)) table

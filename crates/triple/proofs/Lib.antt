@@ -1,6 +1,9 @@
 -- ---- refusals
 -- what is told has passed every test
 pub mod RefusalLaws
+-- ---- lent slices
+-- how many values were written, by which status, and what the slice has then
+pub mod LentLaws
 -- ---- the domain and its orientations
 -- the two tests that come first, and how many rows and positions there are
 pub mod DomainLaws

@@ -1,4 +1,5 @@
 pub mod Refusals
+pub mod Lent
 pub mod Domain
 pub mod Orientations
 pub mod Triples

@@ -4,7 +4,7 @@ use borrow.Author.Needs.{needs}
 use Rattle.nodes.specs.NodeAnswers.{saidChild}
 use Rattle.nodes.proofs.NodeMotifs.{child-motif}
 use Rattle.capi.specs.Calls.{stepValues}
-use Rattle.capi.proofs.LentLaws.{both-told, both-refused}
+use Rattle.triple.proofs.LentLaws.{both-told, both-refused}
 use Rattle.capi.proofs.GivenLaws.{step-called}
 use Rattle.capi.proofs.hb_child.Statement.{statement}
 use Rattle.capi.proofs.hb_child.Tie as tie

@@ -3,7 +3,7 @@ use mathlib.Core.Path.{ap}
 use borrow.Author.Needs.{needs}
 use Rattle.code.specs.Answers.{saidRead}
 use Rattle.capi.specs.Calls.{readingValues}
-use Rattle.capi.proofs.LentLaws.{call-told, call-refused}
+use Rattle.triple.proofs.LentLaws.{call-told, call-refused}
 use Rattle.capi.proofs.hb_code_read.Statement.{statement}
 use Rattle.capi.proofs.hb_code_read.Tie as tie
 

@@ -4,7 +4,7 @@ use borrow.Author.Needs.{needs}
 use Rattle.turtle.specs.Corners.{cornerSumOf}
 use Rattle.turtle.specs.Answers.{saidCorner}
 use Rattle.capi.specs.Calls.{pairValues}
-use Rattle.capi.proofs.LentLaws.{call-told, call-refused}
+use Rattle.triple.proofs.LentLaws.{call-told, call-refused}
 use Rattle.capi.proofs.SignedLaws.{triple-made}
 use Rattle.capi.proofs.hb_corner_sum.Statement.{statement}
 use Rattle.capi.proofs.hb_corner_sum.Tie as tie

@@ -4,7 +4,7 @@ use borrow.Author.Needs.{needs}
 use Rattle.tables.specs.Descent.{descentOf}
 use Rattle.descent.specs.Answers.{saidDescent}
 use Rattle.capi.specs.Calls.{drawnValues}
-use Rattle.capi.proofs.LentLaws.{call-told, call-refused}
+use Rattle.triple.proofs.LentLaws.{call-told, call-refused}
 use Rattle.capi.proofs.hb_descend.Statement.{statement}
 use Rattle.capi.proofs.hb_descend.Tie as tie
 

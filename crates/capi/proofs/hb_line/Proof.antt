@@ -1,9 +1,9 @@
 -- `hb_line`: the printer is lent all of the text or, where the length has no place, none; so both slices are written or none is.
-use mathlib.Core.Path.{sym, ap}
+use mathlib.Core.Path.{_∙_, sym, ap}
 use lib.Seq.{length-take-le}
 use borrow.Author.Needs.{needs}
 use Rattle.query.specs.Answers.{saidPrint}
-use Rattle.capi.proofs.LineLaws.{line-some, line-told, line-refused}
+use Rattle.triple.proofs.LentLaws.{valued-same, lent-told, lent-refused}
 use Rattle.capi.proofs.hb_line.Statement.{statement}
 use Rattle.capi.proofs.hb_line.Tie as tie
 
@@ -43,7 +43,7 @@ returns c =
     let a = p .before .before .before in
     let w = a .before .before .before .before in
     let l = w .before .before .lendable .ensures in
-    line-told _ _ (l .0) (l .1) _ (line-some _) (w .answer-line .ensures .0) (w .answer-line .ensures .1) (ap saidPrint (a .answer .given .1)) (p .put-count .ensures)
+    lent-told _ _ (l .0) (l .1) _ (λ n. n) (w .answer-line .ensures .0 ∙ valued-same _) (w .answer-line .ensures .1) (ap saidPrint (a .answer .given .1)) (p .put-count .ensures)
 
 same-length-3 : tie.Need-same-length-3
 same-length-3 c = search needs
@@ -53,7 +53,7 @@ returns-2 c =
     let a = c .before .before in
     let w = a .before .before .before .before in
     let l = w .before .before .lendable .ensures in
-    line-refused _ _ (l .0) (l .1) _ (line-some _) (w .answer-line .ensures .0) (w .answer-line .ensures .1) (ap saidPrint (a .answer2 .given .1)) (c .number .ensures)
+    lent-refused _ _ (l .0) (l .1) _ (λ n. n) (w .answer-line .ensures .0 ∙ valued-same _) (w .answer-line .ensures .1) (ap saidPrint (a .answer2 .given .1)) (c .number .ensures)
 
 pub hb-line-spec : {M : Type 1} → statement M
 hb-line-spec =

@@ -6,7 +6,7 @@ use Rattle.nodes.specs.Nodes.{nodeOf}
 use Rattle.nodes.specs.NodeAnswers.{saidReached}
 use Rattle.nodes.proofs.NodeMotifs.{reached-motif}
 use Rattle.capi.specs.Calls.{nodeValues}
-use Rattle.capi.proofs.LentLaws.{both-told, both-refused}
+use Rattle.triple.proofs.LentLaws.{both-told, both-refused}
 use Rattle.capi.proofs.SignedLaws.{triple-made}
 use Rattle.capi.proofs.hb_node.Statement.{statement}
 use Rattle.capi.proofs.hb_node.Tie as tie

@@ -3,7 +3,7 @@ use mathlib.Core.Path.{ap}
 use borrow.Author.Needs.{needs}
 use Rattle.curve.specs.Answers.{saidPoint}
 use Rattle.capi.specs.Calls.{tripleValues}
-use Rattle.capi.proofs.LentLaws.{call-told, call-refused}
+use Rattle.triple.proofs.LentLaws.{call-told, call-refused}
 use Rattle.capi.proofs.hb_point.Statement.{statement}
 use Rattle.capi.proofs.hb_point.Tie as tie
 

@@ -4,7 +4,7 @@ use borrow.Author.Needs.{needs}
 use Rattle.lsystem.specs.Answers.{saidPosition}
 use Rattle.lsystem.specs.Cells.{positionOf}
 use Rattle.capi.specs.Calls.{positionValues}
-use Rattle.capi.proofs.LentLaws.{call-told, call-refused}
+use Rattle.triple.proofs.LentLaws.{call-told, call-refused}
 use Rattle.capi.proofs.SignedLaws.{triple-made}
 use Rattle.capi.proofs.hb_position.Statement.{statement}
 use Rattle.capi.proofs.hb_position.Tie as tie

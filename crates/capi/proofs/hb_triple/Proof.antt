@@ -4,7 +4,7 @@ use borrow.Author.Needs.{needs}
 use Rattle.turtle.specs.Corners.{tripleOf}
 use Rattle.turtle.specs.Answers.{saidTriple}
 use Rattle.capi.specs.Calls.{tripleValues}
-use Rattle.capi.proofs.LentLaws.{call-told, call-refused}
+use Rattle.triple.proofs.LentLaws.{call-told, call-refused}
 use Rattle.capi.proofs.SignedLaws.{pair-made}
 use Rattle.capi.proofs.hb_triple.Statement.{statement}
 use Rattle.capi.proofs.hb_triple.Tie as tie

@@ -1,6 +1,6 @@
 -- `put::put_count`: the slice is too short, or it gets the count.
 use borrow.Author.Needs.{needs}
-use Rattle.capi.proofs.LentLaws.{put-short, put-whole}
+use Rattle.triple.proofs.LentLaws.{put-short, put-whole}
 use Rattle.capi.proofs.put.put_count.Statement.{statement}
 use Rattle.capi.proofs.put.put_count.Tie as tie
 

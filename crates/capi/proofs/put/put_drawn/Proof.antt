@@ -3,7 +3,7 @@ use native.Mathlib.Omega.{arith}
 use lib.ListN.{length-set}
 use borrow.Author.Needs.{needs}
 use mir.Syntax.{w64}
-use Rattle.capi.proofs.LentLaws.{put-short}
+use Rattle.triple.proofs.LentLaws.{put-short}
 use Rattle.capi.proofs.SignedLaws.{put-signed}
 use Rattle.capi.proofs.put.put_drawn.Statement.{statement}
 use Rattle.capi.proofs.put.put_drawn.Tie as tie

@@ -2,7 +2,7 @@
 use mathlib.Core.Path.{refl}
 use borrow.Author.Needs.{needs}
 use mir.Syntax.{w32}
-use Rattle.capi.proofs.LentLaws.{first-short, second-short}
+use Rattle.triple.proofs.LentLaws.{first-short, second-short}
 use Rattle.capi.proofs.SignedLaws.{both-signed}
 use Rattle.capi.proofs.put.put_node.Statement.{statement}
 use Rattle.capi.proofs.put.put_node.Tie as tie

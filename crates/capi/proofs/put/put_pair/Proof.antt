@@ -1,7 +1,7 @@
 -- `put::put_pair`: the slice is too short, or it gets two values.
 use borrow.Author.Needs.{needs}
 use mir.Syntax.{w64}
-use Rattle.capi.proofs.LentLaws.{put-short}
+use Rattle.triple.proofs.LentLaws.{put-short}
 use Rattle.capi.proofs.SignedLaws.{put-signed}
 use Rattle.capi.proofs.put.put_pair.Statement.{statement}
 use Rattle.capi.proofs.put.put_pair.Tie as tie

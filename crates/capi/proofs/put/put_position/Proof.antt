@@ -1,6 +1,6 @@
 -- `put::put_position`: the slice is too short, or it gets two values.
 use borrow.Author.Needs.{needs}
-use Rattle.capi.proofs.LentLaws.{put-short, put-whole}
+use Rattle.triple.proofs.LentLaws.{put-short, put-whole}
 use Rattle.capi.proofs.put.put_position.Statement.{statement}
 use Rattle.capi.proofs.put.put_position.Tie as tie
 

@@ -2,7 +2,7 @@
 use native.Mathlib.Omega.{arith}
 use lib.ListN.{length-set}
 use borrow.Author.Needs.{needs}
-use Rattle.capi.proofs.LentLaws.{put-short, put-whole}
+use Rattle.triple.proofs.LentLaws.{put-short, put-whole}
 use Rattle.capi.proofs.put.put_reading.Statement.{statement}
 use Rattle.capi.proofs.put.put_reading.Tie as tie
 

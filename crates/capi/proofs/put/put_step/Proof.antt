@@ -4,7 +4,7 @@ use native.Mathlib.Omega.{arith}
 use lib.ListN.{length-set}
 use borrow.Author.Needs.{needs}
 use mir.Syntax.{w32}
-use Rattle.capi.proofs.LentLaws.{first-short, second-short}
+use Rattle.triple.proofs.LentLaws.{first-short, second-short}
 use Rattle.capi.proofs.SignedLaws.{both-signed}
 use Rattle.capi.proofs.put.put_step.Statement.{statement}
 use Rattle.capi.proofs.put.put_step.Tie as tie

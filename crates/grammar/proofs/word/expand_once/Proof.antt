@@ -4,8 +4,9 @@ use Prim.Native.Nat.{_-_}
 use native.Mathlib.Omega.{arith}
 use lib.ListN.{length}
 use borrow.Author.Needs.{needs}
+use Rattle.triple.proofs.LentLaws.{count-short}
 use Rattle.grammar.specs.Books.{bookOf}
-use Rattle.grammar.proofs.WordByteLaws.{enough, lacking, short}
+use Rattle.grammar.proofs.WordByteLaws.{enough, lacking}
 use Rattle.grammar.proofs.ExpandLaws.{Passed, passed-none, place-within, word-within, part-within, passed-next, passed-all}
 use Rattle.grammar.proofs.word.expand_once.Statement.{statement}
 use Rattle.grammar.proofs.word.expand_once.Tie as tie
@@ -20,7 +21,7 @@ has-room-requires : tie.Need-has-room-requires Inv-loop μ-loop
 has-room-requires c κs = tt
 
 returns : tie.Need-returns Inv-loop μ-loop
-returns c = short _ _ refl (lacking _ _ (c .before .has-room .ensures) (c .if1 .taken))
+returns c = count-short _ _ refl (lacking _ _ (c .before .has-room .ensures) (c .if1 .taken))
 
 loop-holds : tie.Need-loop-holds Inv-loop μ-loop
 loop-holds c = passed-none _ _ _ (enough _ _ (c .before .has-room .ensures) (c .if1 .left))

@@ -1,19 +1,25 @@
--- What a call answers that writes its values to a lent slice: its status, and what the slice holds afterwards.
+-- A call that writes its values to a lent slice: how many they are or its status, and what the slice holds afterwards.
 use mathlib.Core.Path.{_≡_}
 use mathlib.Core.Bool.{cond}
-use mathlib.Core.List.{List, _++_}
+use mathlib.Core.List.{List, [], _∷_, _++_}
 use Prim.Native.Nat.{ℕ}
 use lib.Dec.{ltb}
 use lib.ListN.{length, drop}
 use Rattle.triple.specs.declared.refusal.Refusal.the-variants.{Room}
 use Rattle.triple.specs.Refusals.{Told, told, refused, numberOf, refuse}
 
 -- what a call gives, as the values that it writes
 abbrev pub valued : {A B : Type 0} → (A → B) → Told A → Told B
 valued values (told a) = told (values a)
 valued values (refused n) = refused n
 
--- 0, or the number of the refusal; too short a slice is the last test
+-- ---- values for one slice; too short a slice is the last test
+-- how many it writes
+unfoldable pub countOf : {A : Type 0} → Told (List A) → List A → Told ℕ
+countOf (told values) slice = refuse (ltb (length slice) (length values)) Room (told (length values))
+countOf (refused n) slice = refused n
+
+-- 0, or the number of the refusal
 unfoldable pub statusOf : {A : Type 0} → Told (List A) → List A → ℕ
 statusOf (told values) slice = cond (ltb (length slice) (length values)) (numberOf Room) 0
 statusOf (refused n) slice = n
@@ -23,11 +29,18 @@ unfoldable pub afterCall : {A : Type 0} → Told (List A) → List A → List A
 afterCall (told values) slice = cond (ltb (length slice) (length values)) slice (values ++ drop (length values) slice)
 afterCall (refused n) slice = slice
 
--- the status and the slice afterwards are the call's
+-- the count, or the status, and the slice afterwards are the call's
+abbrev pub Counted : {A : Type 0} → Told (List A) → List A → Told ℕ → List A → Type 0
+Counted call slice said after = (said ≡ countOf call slice) × (after ≡ afterCall call slice)
+
 abbrev pub Called : {A : Type 0} → Told (List A) → List A → ℕ → List A → Type 0
 Called call slice n after = (n ≡ statusOf call slice) × (after ≡ afterCall call slice)
 
 -- ---- values for two slices: both are written, or none
+-- the values, and a number that tells how many they are
+abbrev pub counting : {A : Type 0} → (ℕ → ℕ) → Told (List A) → Told (List A × List ℕ)
+counting f call = valued (λ values. (values, f (length values) ∷ [])) call
+
 -- those for the first, where the second has room
 unfoldable pub firstOf : {A B : Type 0} → Told (List A × List B) → List B → Told (List A)
 firstOf (told (values, others)) second = refuse (ltb (length second) (length others)) Room (told values)
