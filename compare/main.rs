@@ -13,7 +13,7 @@ use lattice::curve::round_to_triple;
 use lattice::lsystem::{ab_to_triple, curve_child, s_to_cell, triple_to_ab, triple_to_curve_node, CurveNode};
 use lattice::triple::triple_in_bounds;
 use lattice::types::Triple;
-use shared::{Part, Random, ORIENTATIONS};
+use shared::{moved, Part, Random, ORIENTATIONS};
 
 const MANY: u64 = 10_000_000;
 
@@ -102,7 +102,8 @@ fn nodes(all: &mut u64, random: &mut Random) {
 }
 
 fn point(part: &mut Part, i: f64, j: f64, r: u8) {
-    part.same(format_args!("point {i:e} {j:e} {r}"), haspbarley::point(i, j, r), Ok(at(&round_to_triple(IJ(i, j), r as usize))));
+    let t = round_to_triple(IJ(i, j), r as usize);
+    part.same(format_args!("point {i:e} {j:e} {r}"), haspbarley::point(i, j, r), Ok([t.x, t.y, t.z, moved(i, j, r) as i32]));
 }
 
 // A number of any magnitude up to 2^31: random bits, its exponent brought into range.

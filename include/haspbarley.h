@@ -109,7 +109,8 @@ uint8_t hb_child(int32_t motif, int32_t flip, double a, double b, uint8_t digit,
                  uint8_t orientation, int32_t *numbers, size_t numbers_len, double *places, size_t places_len);
 
 /* The triple of the cell that the point (i, j) falls in, brought into bounds.
- * Values: x y z (3). Refusals: 1, 9, 10. */
+ * Values: x y z moved (4); moved is 1 where the point lay out of bounds, else 0.
+ * Refusals: 1, 9, 10. */
 uint8_t hb_point(double i, double j, uint8_t resolution, int32_t *out, size_t out_len);
 
 /* The corner sum of a triple's cell, at whatever resolution.

@@ -28,10 +28,10 @@ pub fn position(o: u8, r: u8, t: [i32; 3]) -> Result<[u64; 2], u8> {
     told(unsafe { hb_position(o, r, t[0], t[1], t[2], out.as_mut_ptr(), 2) }, out)
 }
 
-// x y z
-pub fn point(i: f64, j: f64, r: u8) -> Result<[i32; 3], u8> {
-    let mut out = [0; 3];
-    told(unsafe { hb_point(i, j, r, out.as_mut_ptr(), 3) }, out)
+// x y z moved
+pub fn point(i: f64, j: f64, r: u8) -> Result<[i32; 4], u8> {
+    let mut out = [0; 4];
+    told(unsafe { hb_point(i, j, r, out.as_mut_ptr(), 4) }, out)
 }
 
 // a b

@@ -1,5 +1,5 @@
 // What the drivers share: a source of random numbers, the six orientations by number, the Rust's lookup
-// of a position with its flavor, and a comparison's count.
+// of a position with its flavor, whether a point is moved, and a comparison's count.
 use crate::lattice::lsystem::triple_to_s_lattice;
 use crate::lattice::triple::triple_flavor;
 use crate::lattice::types::{Orientation, Triple};
@@ -25,6 +25,14 @@ impl Random {
 pub fn position(o: usize, r: u8, t: &Triple) -> (u64, u8) {
     let s = if r == 0 { 0 } else { triple_to_s_lattice(t, r as usize, ORIENTATIONS[o]) };
     (s, triple_flavor(t, ((1i64 << r) - 1) as i32))
+}
+
+// Whether a point is moved, which the Rust does not tell: a floor is negative, or m + n + parity is above
+// the last row, before any correction.
+pub fn moved(i: f64, j: f64, r: u8) -> bool {
+    let (m, n) = (i.floor(), j.floor());
+    let parity = if (i - m) + (j - n) >= 1.0 { 1 } else { 0 };
+    m < 0.0 || n < 0.0 || m as i64 + n as i64 + parity > (1 << r) - 1
 }
 
 // One part of the comparison: how much was compared, and how much differed.

@@ -10,7 +10,7 @@ use coordinate_systems::IJ;
 use lattice::curve::round_to_triple;
 use lattice::lsystem::s_to_cell;
 use lattice::types::Triple;
-use shared::{position, Random, ORIENTATIONS};
+use shared::{moved, position, Random, ORIENTATIONS};
 
 fn by_position(o: usize, r: u8, s: u64) -> Triple {
     let c = s_to_cell(s, r as usize, ORIENTATIONS[o]);
@@ -26,7 +26,7 @@ fn by_triple(o: usize, r: u8, t: &Triple) {
 fn by_point(o: usize, r: u8, i: f64, j: f64) {
     let t = round_to_triple(IJ(i, j), r as usize);
     let (s, f) = position(o, r, &t);
-    println!("R {o} {r} {:016X} {:016X}\t{} {} {} {s} {f}", i.to_bits(), j.to_bits(), t.x, t.y, t.z);
+    println!("R {o} {r} {:016X} {:016X}\t{} {} {} {s} {f} {}", i.to_bits(), j.to_bits(), t.x, t.y, t.z, moved(i, j, r) as u8);
 }
 
 fn refused(number: u8, lines: &[&str]) {
@@ -41,7 +41,7 @@ fn main() {
         "P 5 1 0\t-1 1 0 2",
         "C 0 2 -1 2 0\t6 3",
         "C 1 2 0 3 -3\t0 2",
-        "R 0 1 3FE0000000000000 3FE0000000000000\t0 1 0 1 1",
+        "R 0 1 3FE0000000000000 3FE0000000000000\t0 1 0 1 1 0",
         "P 0 1 4\t! 3",
         "C 0 1 0 2 -2\t! 5",
     ] {

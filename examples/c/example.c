@@ -74,9 +74,9 @@ static void line(const char *query)
 
 static void point(double i, double j, uint8_t resolution)
 {
-    int32_t out[3] = {0};
+    int32_t out[4] = {0};
     printf("point %.10g %.10g %d:", i, j, resolution);
-    show_i32(hb_point(i, j, resolution, out, 3), out, 3);
+    show_i32(hb_point(i, j, resolution, out, 4), out, 4);
 }
 
 static void corner_sum(int32_t x, int32_t y, int32_t z)

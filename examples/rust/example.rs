@@ -189,7 +189,7 @@ fn line(query: &str) {
 }
 
 fn point(i: f64, j: f64, resolution: u8) {
-    let mut out = [0; 3];
+    let mut out = [0; 4];
     let status = haspbarley::point(i, j, resolution, &mut out);
     println!("point {i} {j} {resolution}: {}", gives(status, &out));
 }

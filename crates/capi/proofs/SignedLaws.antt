@@ -1,8 +1,8 @@
 -- A signed number is held and stored as it is read back from its bits, and that is the number.
-use mathlib.Core.Path.{_≡_, refl, _∙_}
+use mathlib.Core.Path.{_≡_, refl, _∙_, subst}
 use mathlib.Core.List.{List, [], _∷_}
-use Prim.Native.Nat.{_≤_}
-use lib.IntN.{ℤ}
+use Prim.Native.Nat.{ℕ, _≤_}
+use lib.IntN.{ℤ, pos}
 use lib.ListN.{length}
 use lib.Seq.{sets}
 use mir.Syntax.{Width, w32, w64}
@@ -11,6 +11,9 @@ use mir.ValLaws.{toZ-ofZ}
 use Rattle.triple.specs.declared.Triple.{Triple}
 use Rattle.triple.specs.Refusals.{told}
 use Rattle.turtle.specs.declared.AB.{AB}
+use Rattle.curve.specs.declared.PointCell.{PointCell}
+use Rattle.curve.specs.Points.{markOf}
+use Rattle.capi.specs.Calls.{pointValues}
 use Rattle.triple.specs.Lent.{Called, CalledBoth}
 use Rattle.triple.proofs.LentLaws.{sets-front, put-whole, both-whole}
 
@@ -28,6 +31,13 @@ read-back w (v ∷ l) f = rw (toZ-ofZ w v (f .0), read-back w l (f .1))
 
 pub put-signed : (w : Width) (values slice : List ℤ) → length values ≤ length slice → Fitting w values → Called (told values) slice 0 (sets slice 0 (readBack w values))
 put-signed w values slice h f = rw (read-back w values f) (put-whole values slice h)
+
+-- a point's values, its mark m as it was worked out
+pub put-marked : (p : PointCell) (slice : List ℤ) {m : ℕ} → m ≡ markOf p → 4 ≤ length slice → Fitting w32 (p .triple .x ∷ p .triple .y ∷ p .triple .z ∷ pos m ∷ [])
+    → Called (told (pointValues p)) slice 0 (sets slice 0 (readBack w32 (p .triple .x ∷ p .triple .y ∷ p .triple .z ∷ pos m ∷ [])))
+put-marked p slice {m} e h f =
+    let values : ℕ → List ℤ = λ m. p .triple .x ∷ p .triple .y ∷ p .triple .z ∷ pos m ∷ [] in
+    subst (λ k. Called (told (values k)) slice 0 (sets slice 0 (readBack w32 (values m)))) e (put-signed w32 (values m) slice h f)
 
 -- signed values for the first of two slices
 pub both-signed : (w : Width) {B : Type 0} (values : List ℤ) (others : List B) (first : List ℤ) (second : List B) → length values ≤ length first → length others ≤ length second

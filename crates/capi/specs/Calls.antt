@@ -20,7 +20,8 @@ use Rattle.nodes.specs.declared.Reached.{Reached}
 use Rattle.lsystem.specs.Cells.{cellOf, positionOf}
 use Rattle.nodes.specs.Nodes.{childStepOf, nodeOf}
 use Rattle.tables.specs.Descent.{Leaf, descentOf}
-use Rattle.curve.specs.Points.{pointOf}
+use Rattle.curve.specs.declared.PointCell.{PointCell}
+use Rattle.curve.specs.Points.{markOf, pointOf}
 use Rattle.code.specs.declared.Reading.{Reading}
 use Rattle.code.specs.Codes.{codeOf, readOf}
 use Rattle.query.specs.Lines.{answerLine}
@@ -38,6 +39,10 @@ tripleValues t = t .x ∷ t .y ∷ t .z ∷ []
 -- x y z flavor
 abbrev pub cellValues : Cell → List ℤ
 cellValues c = c .triple .x ∷ c .triple .y ∷ c .triple .z ∷ pos (c .flavor) ∷ []
+
+-- x y z moved
+abbrev pub pointValues : PointCell → List ℤ
+pointValues p = p .triple .x ∷ p .triple .y ∷ p .triple .z ∷ pos (markOf p) ∷ []
 
 -- s flavor
 abbrev pub positionValues : Position → List ℕ
@@ -93,7 +98,7 @@ stepCall m f a b d r o =
       valued stepValues (childStepOf o r n d)))
 
 abbrev pub pointCall : Float → Float → ℕ → Told (List ℤ)
-pointCall i j r = valued tripleValues (pointOf r i j)
+pointCall i j r = valued pointValues (pointOf r i j)
 
 abbrev pub cornerCall : ℤ → ℤ → ℤ → Told (List ℤ)
 cornerCall x y z = valued pairValues (cornerSumOf (record { x = x; y = y; z = z }))

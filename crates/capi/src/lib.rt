@@ -27,6 +27,7 @@ use put::put_count;
 use put::put_drawn;
 use put::put_node;
 use put::put_pair;
+use put::put_point;
 use put::put_position;
 use put::put_reading;
 use put::put_step;
@@ -139,14 +140,14 @@ fn clipped(number: i32, greatest: u8) -> u8
     number as u8
 }
 
-// The triple of the cell that a point falls in: x y z.
+// The cell that a point falls in, and whether it was moved to come into bounds: x y z moved.
 #[no_mangle]
 pub extern "C" fn hb_point(i: f64, j: f64, resolution: u8, out: &mut [i32]) -> u8
     ensures { λ n. ⌜ (n ≡ statusOf (pointCall i j resolution) (now (out .entry))) × (now (out .exit) ≡ afterCall (pointCall i j resolution) (now (out .entry))) ⌝ }
 {
     let answer = curve::round_to_triple(i, j, resolution);
     match answer {
-        PointAnswer::At(t) => put_triple(t, out),
+        PointAnswer::At(p) => put_point(p, out),
         PointAnswer::Refused(e) => e.number(),
     }
 }

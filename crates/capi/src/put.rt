@@ -5,8 +5,9 @@ ghost use Rattle.triple.specs.Refusals.{told};
 ghost use Prim.Native.Nat.{_≤_};
 ghost use Rattle.descent.specs.Answers.{saidLeaf};
 ghost use Rattle.triple.specs.Lent.{statusOf, afterCall, firstOf, secondOf};
-ghost use Rattle.capi.specs.Calls.{tripleValues, cellValues, positionValues, nodeValues, stepValues, pairValues, drawnValues, countValues, readingValues};
+ghost use Rattle.capi.specs.Calls.{tripleValues, cellValues, pointValues, positionValues, nodeValues, stepValues, pairValues, drawnValues, countValues, readingValues};
 use code::Reading;
+use curve::PointCell;
 use descent::TableCell;
 use lsystem::Position;
 use lsystem::cell::Cell;
@@ -48,6 +49,25 @@ pub(crate) fn put_cell(c: Cell, out: &mut [i32]) -> u8
     out[1] = y;
     out[2] = z;
     out[3] = flavor;
+    0
+}
+
+// x y z moved
+pub(crate) fn put_point(p: PointCell, out: &mut [i32]) -> u8
+    ensures { λ n. ⌜ (n ≡ statusOf (told (pointValues p)) (now (out .entry))) × (now (out .exit) ≡ afterCall (told (pointValues p)) (now (out .entry))) ⌝ }
+{
+    if out.len() < 4 {
+        return Refusal::Room.number();
+    }
+    let t = p.triple;
+    let x = t.x;
+    let y = t.y;
+    let z = t.z;
+    let mark = p.mark() as i32;
+    out[0] = x;
+    out[1] = y;
+    out[2] = z;
+    out[3] = mark;
     0
 }
 

@@ -1,22 +1,22 @@
 -- Worked examples of document 01 on points, by computation. A float fin s m e is m * 2 ^ e, negative where s is true.
 use mathlib.Core.Path.{_≡_, refl}
-use mathlib.Core.Bool.{false, true}
+use mathlib.Core.Bool.{Bool, false, true}
 use Prim.Native.Nat.{_+_, _*_, _^_}
 use lib.IntN.{ℤ, pos, negsuc}
 use lib.Ieee.{nan, inf, fin, add, sub, le, ofInt}
-use Rattle.triple.specs.declared.Triple.{Triple}
 use Rattle.triple.specs.Refusals.{Told, told, refused, numberOf}
-use Rattle.curve.specs.Points.{near, floor, fraction, parity, settled, pointOf}
+use Rattle.curve.specs.declared.PointCell.{PointCell}
+use Rattle.curve.specs.Points.{near, floor, fraction, parity, settled, isMoved, pointOf}
 
-abbrev at : ℤ → ℤ → ℤ → Told Triple
-at x y z = told (record { x = x; y = y; z = z })
+abbrev at : ℤ → ℤ → ℤ → Bool → Told PointCell
+at x y z moved = told (record { triple = record { x = x; y = y; z = z }; moved = moved })
 
 -- cases 9 and 10: (2.0, 3.0) and (-0.25, 0.5); and the program's (0.5, 0.5)
 pub point-examples :
-    (pointOf 1 (fin false 1 (pos 1)) (fin false 3 (pos 0)) ≡ at (negsuc 0) (pos 1) (pos 0))
-    × (pointOf 1 (fin true 1 (negsuc 1)) (fin false 1 (negsuc 0)) ≡ at (pos 0) (pos 1) (pos 0))
-    × (pointOf 1 (fin false 1 (negsuc 0)) (fin false 1 (negsuc 0)) ≡ at (pos 0) (pos 1) (pos 0))
-unfolding numberOf near floor fraction parity settled pointOf add sub le ofInt
+    (pointOf 1 (fin false 1 (pos 1)) (fin false 3 (pos 0)) ≡ at (negsuc 0) (pos 1) (pos 0) true)
+    × (pointOf 1 (fin true 1 (negsuc 1)) (fin false 1 (negsuc 0)) ≡ at (pos 0) (pos 1) (pos 0) true)
+    × (pointOf 1 (fin false 1 (negsuc 0)) (fin false 1 (negsuc 0)) ≡ at (pos 0) (pos 1) (pos 0) false)
+unfolding numberOf near floor fraction parity settled isMoved pointOf add sub le ofInt
 point-examples = (refl, refl, refl)
 
 -- the refusals in their order; 2 ^ 31 in size is not beyond it
@@ -25,7 +25,7 @@ pub refused-points :
     × (pointOf 30 nan (fin false 0 (pos 0)) ≡ refused 9)
     × (pointOf 30 (fin false 0 (pos 0)) (inf true) ≡ refused 9)
     × (pointOf 30 (fin false (2 ^ 31 * 2 ^ 21 + 1) (negsuc 20)) (fin false 0 (pos 0)) ≡ refused 9)
-    × (pointOf 30 (fin false 1 (pos 31)) (fin true 1 (pos 31)) ≡ at (pos 0) (pos 1073741823) (negsuc 1073741822))
-    × (pointOf 30 (fin true 1 (pos 31)) (fin false 1 (pos 31)) ≡ at (negsuc 1073741822) (pos 1073741823) (pos 0))
-unfolding numberOf near floor fraction parity settled pointOf add sub le ofInt
+    × (pointOf 30 (fin false 1 (pos 31)) (fin true 1 (pos 31)) ≡ at (pos 0) (pos 1073741823) (negsuc 1073741822) true)
+    × (pointOf 30 (fin true 1 (pos 31)) (fin false 1 (pos 31)) ≡ at (negsuc 1073741822) (pos 1073741823) (pos 0) true)
+unfolding numberOf near floor fraction parity settled isMoved pointOf add sub le ofInt
 refused-points = (refl, refl, refl, refl, refl, refl)

@@ -6,7 +6,9 @@ pub mod FloorLaws
 -- ---- points
 -- each step of the rounding, and that what it gives is in bounds
 pub mod PointLaws
--- the contract allows one answer alone
+-- whether a point was moved, and what that says
+pub mod MoveLaws
+-- each contract allows one answer alone
 pub mod Determined
 -- worked examples
 pub mod Examples

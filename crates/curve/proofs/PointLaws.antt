@@ -24,7 +24,8 @@ use Rattle.triple.specs.Domain.{greatestResolution, rowCount}
 use Rattle.triple.proofs.DomainLaws.{v-rows}
 use Rattle.triple.proofs.RefusalLaws.{passed}
 use Rattle.triple.proofs.TripleLaws.{row-most}
-use Rattle.curve.specs.Points.{near, floor, fraction, one, parity, clamped, cornered, settled, pointOf}
+use Rattle.curve.specs.declared.PointCell.{PointCell}
+use Rattle.curve.specs.Points.{near, floor, fraction, one, parity, clamped, cornered, settled, isMoved, pointCell, pointOf}
 use Rattle.curve.proofs.FloorLaws.{floor-size}
 
 -- ---- both coordinates
@@ -191,18 +192,21 @@ pub ruleset settling = (settled-whole, settled-even, settled-off-m, settled-off-
 -- the whole rounding, from what each step gives
 pub rounded-is : (i j : Float) (last : ℕ) → (near i && near j) ≡ true → {y z m n : ℤ} → y ≡ floor i → z ≡ floor j → m ≡ pos (clamped (rd w64 y)) → n ≡ pos (clamped (rd w64 z))
     → (f g : Float) → f ≡ sub binary64 i (ofInt binary64 (rd w64 y)) → g ≡ sub binary64 j (ofInt binary64 (rd w64 z)) → {p : ℕ} → p ≡ cond (le one (add binary64 f g)) 1 0
-    → {t : Triple} → t ≡ settled last (natAbs (rd w64 m)) (natAbs (rd w64 n)) p → t ≡ settled last (clamped (floor i)) (clamped (floor j)) (parity i j)
-rounded-is i j last both y z m n f g a b p e =
+    → {t : Triple} → t ≡ settled last (natAbs (rd w64 m)) (natAbs (rd w64 n)) p → {b : Bool} → b ≡ isMoved last (rd w64 y) (rd w64 z) p → {c : PointCell} → c ≡ record { triple = t; moved = b } → c ≡ pointCell last (floor i) (floor j) (parity i j)
+rounded-is i j last both y z m n f g a b p e moved is =
     let ni = near-first i j both in
     let nj = near-second i j both in
-    e ∙ λ k. settled last (clamped-is i ni y m k) (clamped-is j nj z n k) (parity-is f g p i j (fraction-is i ni y a) (fraction-is j nj z b) k)
+    let parity-same = parity-is f g p i j (fraction-is i ni y a) (fraction-is j nj z b) in
+    let triple-same = e ∙ λ k. settled last (clamped-is i ni y m k) (clamped-is j nj z n k) (parity-same k) in
+    let moved-same = moved ∙ λ k. isMoved last (floor-read i ni y k) (floor-read j nj z k) (parity-same k) in
+    is ∙ λ k. record { triple = triple-same k; moved = moved-same k }
 
 pub ruleset rounding = (near-first, near-second, floor-small, clamped-not-negative, clamped-fits, clamped-small, parity-small, rounded-is)
 
 -- ---- the answers: refused, or told
 module _ (r : ℕ) (i j : Float) where
-  abbrev found : Triple
-  found = settled (2 ^ r - 1) (clamped (floor i)) (clamped (floor j)) (parity i j)
+  abbrev found : PointCell
+  found = pointCell (2 ^ r - 1) (floor i) (floor j) (parity i j)
 
   pub point-far : 30 < r → refused (numberOf Is.Resolution) ≡ pointOf r i j
   unfolding pointOf
@@ -213,7 +217,7 @@ module _ (r : ℕ) (i j : Float) where
     unfolding pointOf
     point-beyond n = rw (le-ltb 30 r h, ← e, not-true b n)
 
-    pub point-told : not b ≡ false → {l : ℕ} → l ≡ 2 ^ r - 1 → {t : Triple} → t ≡ settled l (clamped (floor i)) (clamped (floor j)) (parity i j) → told t ≡ pointOf r i j
+    pub point-told : not b ≡ false → {l : ℕ} → l ≡ 2 ^ r - 1 → {p : PointCell} → p ≡ pointCell l (floor i) (floor j) (parity i j) → told p ≡ pointOf r i j
     unfolding pointOf
     point-told n l f = rw (le-ltb 30 r h, ← e, not-false b n, f, l)
 
@@ -240,16 +244,22 @@ cornered-in-bounds r m n p h l =
     let z-least = le-by (v-add sum (v-neg y)) z tt (omega arith) in
     sym (true-pass (bounds r (cornered m n p)) (sum-least, (sum-most, (x-most, (z-most, (y-least, (y-most, (x-least, (z-least, tt)))))))))
 
-settled-in-bounds : (r m n p : ℕ) → p ≤ 1 → inBounds r (settled (2 ^ r - 1) m n p) ≡ true
+pub settled-in-bounds : (r m n p : ℕ) → p ≤ 1 → inBounds r (settled (2 ^ r - 1) m n p) ≡ true
 settled-in-bounds r m n p l = elim (decLt (2 ^ r - 1) (m + n + p)) [
   | yes h ↦ rw (← settled-over m n p (2 ^ r - 1) h refl refl refl) (cornered-in-bounds r (m - (m + n - (2 ^ r - 1))) (n - (m + n - (2 ^ r - 1) - m)) 0 (omega arith) (omega arith))
   | no h ↦ rw (← settled-whole m n p (2 ^ r - 1) (omega arith) refl) (cornered-in-bounds r m n p (omega arith) l)
 ]
 
-pub point-in-bounds : (r : ℕ) (i j : Float) (t : Triple) → pointOf r i j ≡ told t → inBounds r t ≡ true
-unfolding pointOf parity
-point-in-bounds r i j t e =
+-- what is told is the rounding's
+pub point-is : (r : ℕ) (i j : Float) (p : PointCell) → pointOf r i j ≡ told p → p ≡ found r i j
+unfolding pointOf
+point-is r i j p e =
     let deep = passed (ltb greatestResolution r) Is.Resolution e in
     let beyond = passed (not (near i && near j)) Is.Point (deep .1) in
-    let is : found r i j ≡ t = cc (beyond .1) in
-    ap (inBounds r) (sym is) ∙ settled-in-bounds r (clamped (floor i)) (clamped (floor j)) (parity i j) (parity-small (fraction i) (fraction j) refl)
+    cc (beyond .1)
+
+pub point-in-bounds : (r : ℕ) (i j : Float) (p : PointCell) → pointOf r i j ≡ told p → inBounds r (p .triple) ≡ true
+unfolding parity
+point-in-bounds r i j p e =
+    ap (λ (p : PointCell). inBounds r (p .triple)) (point-is r i j p e)
+    ∙ settled-in-bounds r (clamped (floor i)) (clamped (floor j)) (parity i j) (parity-small (fraction i) (fraction j) refl)

@@ -1,13 +1,15 @@
--- A point's triple: floors, parity, and what of them is beyond the bounds taken off.
-use mathlib.Core.Bool.{Bool, true, false, not, _&&_, cond}
+-- A point's cell: floors, parity, what of them is beyond the bounds taken off, and whether anything was.
+use mathlib.Core.Bool.{Bool, true, false, not, _&&_, _||_, cond}
 use Prim.Native.Nat.{ℕ, _+_, _-_, _*_, _/_, _^_}
 use lib.Dec.{leb}
-use lib.IntN.{ℤ, pos, negsuc, negℤ}
+use lib.IntN.{ℤ, pos, negsuc, negℤ, _+ℤ_}
+use lib.Signed.{ltZ}
 use lib.Ieee.{Float, nan, inf, fin, up, down, binary64, add, sub, le, ofInt}
 use Rattle.triple.specs.declared.Triple.{Triple}
 use Rattle.triple.specs.declared.refusal.Refusal.the-variants as Is
 use Rattle.triple.specs.Refusals.{Told, told, refuse}
 use Rattle.triple.specs.Domain.{atResolution}
+use Rattle.curve.specs.declared.PointCell.{PointCell}
 
 -- ---- a coordinate: the value of fin s m e is m * up e / down e, negative where s is true
 -- not NaN, not infinite, and not beyond 2 ^ 31 in size
@@ -53,9 +55,24 @@ settled last m n p =
     let excess = m + n - last in
     cond (leb (m + n + p) last) (cornered m n p) (cornered (m - excess) (n - (excess - m)) 0)
 
--- THE TRIPLE of the point (i, j) at resolution r
-unfoldable pub pointOf : ℕ → Float → Float → Told Triple
+-- a floor is negative, or m + n + parity is above max_row, before any correction
+unfoldable pub isMoved : ℕ → ℤ → ℤ → ℕ → Bool
+isMoved last m n p = ltZ m (pos 0) || ltZ n (pos 0) || ltZ (pos last) (m +ℤ n +ℤ pos p)
+
+-- the triple of a point's own floors and parity, in bounds or not: (-n, m + n + parity, -m)
+abbrev pub ownTriple : ℤ → ℤ → ℕ → Triple
+ownTriple m n p = record { x = negℤ n; y = m +ℤ n +ℤ pos p; z = negℤ m }
+
+abbrev pub pointCell : ℕ → ℤ → ℤ → ℕ → PointCell
+pointCell last m n p = record { triple = settled last (clamped m) (clamped n) p; moved = isMoved last m n p }
+
+-- 1 where it was moved, else 0
+unfoldable pub markOf : PointCell → ℕ
+markOf p = cond (p .moved) 1 0
+
+-- THE CELL of the point (i, j) at resolution r
+unfoldable pub pointOf : ℕ → Float → Float → Told PointCell
 pointOf r i j =
     atResolution r
     (refuse (not (near i && near j)) Is.Point
-    (told (settled (2 ^ r - 1) (clamped (floor i)) (clamped (floor j)) (parity i j))))
+    (told (pointCell (2 ^ r - 1) (floor i) (floor j) (parity i j))))

@@ -1,4 +1,5 @@
-// Answers for points: the triple of the cell that a point of two f64 falls in, brought into bounds.
+// Answers for points: the triple of the cell that a point of two f64 falls in, brought into bounds, and
+// whether it had to be.
 // What a triple's bounds are is `triple`'s; which position names it is `lsystem`'s. The mapping between
 // positions and cells needs no point, and is all there.
 ghost use mathlib.Core.Path.{_≡_};
@@ -6,20 +7,35 @@ ghost use mathlib.Core.Bool.{true, _&&_, cond};
 ghost use Prim.Native.Nat.{_+_, _-_, _<_, _≤_, _^_};
 ghost use lib.IntN.{pos, natAbs};
 ghost use lib.Ieee.{binary64, add, sub, le, ofInt};
-ghost use Rattle.curve.specs.Points.{near, floorAt, floor, one, parity, clamped, cornered, settled, pointOf};
+ghost use Rattle.curve.specs.Points.{near, floorAt, floor, one, parity, clamped, cornered, settled, isMoved, pointCell, markOf, pointOf};
 ghost use Rattle.curve.specs.Answers.{saidPoint};
 use triple::Triple;
 use triple::domain::row_count;
 use triple::refusal::Refusal;
 
+// A point's cell. A point is moved where its own floors and parity are those of no cell in bounds.
+pub struct PointCell {
+    pub triple: Triple,
+    pub moved: bool,
+}
+
+impl PointCell {
+    // The mark as a number: 1 where the point was moved, else 0.
+    pub fn mark(self) -> u8
+        ensures { λ n. ⌜ n ≡ markOf self ⌝ }
+    {
+        if self.moved { 1 } else { 0 }
+    }
+}
+
 pub enum PointAnswer {
-    At(Triple),
+    At(PointCell),
     Refused(Refusal),
 }
 
-// The triple of the cell that holds the point (i, j). A unit square is two cells, parted where the
+// The cell that holds the point (i, j). A unit square is two cells, parted where the
 // fractions of i and j sum to 1; that line is the upper cell's. A point out of bounds, as float
-// noise at an edge can have it, is brought to a cell that is there.
+// noise at an edge or a hand that drags it can have it, is brought to a cell that is there, and marked.
 pub fn round_to_triple(i: f64, j: f64, resolution: u8) -> PointAnswer
     ensures { λ a. ⌜ saidPoint a ≡ pointOf resolution i j ⌝ }
 {
@@ -51,9 +67,9 @@ fn is_near(x: f64) -> bool
     false
 }
 
-fn rounded(i: f64, j: f64, last: u64) -> Triple
+fn rounded(i: f64, j: f64, last: u64) -> PointCell
     requires { ⌜ ((near i && near j) ≡ true) × (last ≤ 2 ^ 30) ⌝ }
-    ensures { λ t. ⌜ t ≡ settled last (clamped (floor i)) (clamped (floor j)) (parity i j) ⌝ }
+    ensures { λ p. ⌜ p ≡ pointCell last (floor i) (floor j) (parity i j) ⌝ }
 {
     let floor_i = floor_of(i);
     let floor_j = floor_of(j);
@@ -61,7 +77,10 @@ fn rounded(i: f64, j: f64, last: u64) -> Triple
     let n = clamped(floor_j);
     // By the floors as they are: what is below a clamped one has no fraction above it.
     let parity = parity_of(above(i, floor_i), above(j, floor_j));
-    settled(m as u64, n as u64, parity, last)
+    PointCell {
+        triple: settled(m as u64, n as u64, parity, last),
+        moved: is_moved(floor_i, floor_j, parity, last),
+    }
 }
 
 // An f64 is, from the highest bit down: its sign; its exponent, in 11 bits; its digits, in 52. The
@@ -123,6 +142,20 @@ fn clamped(m: i64) -> i64
     ensures { λ z. ⌜ z ≡ pos (clamped m) ⌝ }
 {
     if m < 0 { 0 } else { m }
+}
+
+// By the floors as they are: a clamped one is never negative.
+fn is_moved(m: i64, n: i64, parity: u64, last: u64) -> bool
+    requires { ⌜ (natAbs m ≤ 2 ^ 31) × (natAbs n ≤ 2 ^ 31) × (parity ≤ 1) × (last ≤ 2 ^ 30) ⌝ }
+    ensures { λ b. ⌜ b ≡ isMoved last m n parity ⌝ }
+{
+    if m < 0 {
+        return true;
+    }
+    if n < 0 {
+        return true;
+    }
+    m + n + parity as i64 > last as i64
 }
 
 fn last_row(resolution: u8) -> u64

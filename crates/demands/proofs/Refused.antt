@@ -208,7 +208,7 @@ query (Query.Cell o r t) = by-step (position o r t tt tt tt tt) λ p. answer
 query (Query.Point o r i j) =
     by-test (ltb 30 r) Is.Resolution tt λ k.
     by-test (ltb 5 o) Is.Orientation tt λ h.
-    by-step (point r i j tt tt) λ t. by-step (position o r t tt tt tt tt) λ p. answer
+    by-step (point r i j tt tt) λ c. by-step (position o r (c .triple) tt tt tt tt) λ p. answer
 
 print : (text buffer : List ℕ) → AnsweredOr (10 ∷ []) (countOf (told text) buffer)
 print text buffer = by-room buffer tt answer

@@ -4,7 +4,7 @@ use mathlib.Core.Path.{_≡_}
 use mathlib.Core.Logic.{_↔_}
 use mathlib.Core.Bool.{Bool, true, false, _||_}
 use mathlib.Core.List.{List, [], _∷_}
-use Prim.Native.Nat.{ℕ, _+_, _*_, _/_, _^_, _<_, _≤_}
+use Prim.Native.Nat.{ℕ, _+_, _-_, _*_, _/_, _^_, _<_, _≤_}
 use lib.Dec.{T, eqb}
 use lib.IntN.{ℤ}
 use lib.Ieee.{Float}
@@ -32,7 +32,8 @@ use Rattle.nodes.specs.declared.Node.{Node}
 use Rattle.nodes.specs.Nodes.{goodNode, childStepOf, nodeOf}
 use Rattle.nodes.specs.NodeAnswers.{axiomNodeOf}
 use Rattle.nodes.specs.NodeWalks.{walkedNode, lastStep}
-use Rattle.curve.specs.Points.{pointOf}
+use Rattle.curve.specs.declared.PointCell.{PointCell}
+use Rattle.curve.specs.Points.{floor, parity, clamped, settled, ownTriple, pointOf}
 use Rattle.code.specs.Codes.{codeOf, readOf}
 use Rattle.query.specs.declared.Query.{Query}
 use Rattle.query.specs.Queries.{answerOf}
@@ -78,7 +79,7 @@ pub record Refusals : Type 0 where
   pub node : (o r : ℕ) (t : Triple) → AnsweredOr (1 ∷ 2 ∷ 4 ∷ 5 ∷ []) (nodeOf o r t)
   -- a child step
   pub child : (o r : ℕ) (n : Node) (d : ℕ) → AnsweredOr (1 ∷ 2 ∷ 7 ∷ 8 ∷ 5 ∷ []) (childStepOf o r n d)
-  -- a point's triple
+  -- a point's cell
   pub point : (r : ℕ) (i j : Float) → AnsweredOr (1 ∷ 9 ∷ []) (pointOf r i j)
   -- a word, reversed or expanded, written to a buffer
   pub word : (word buffer : List ℕ) → AnsweredOr (10 ∷ []) (countOf (told word) buffer)
@@ -155,8 +156,14 @@ pub record ChildSteps (o r s : ℕ) : Type 0 where
 
 -- ---- points
 pub record Points : Type 0 where
-  -- the triple of a point is always in bounds
-  pub in-bounds : (r : ℕ) (i j : Float) (t : Triple) → pointOf r i j ≡ told t → inBounds r t ≡ true
+  -- the triple is that of the floors and the parity, a negative floor 0 and what is above the last row taken off parity, m and n
+  pub triple : (r : ℕ) (i j : Float) (p : PointCell) → pointOf r i j ≡ told p → p .triple ≡ settled (2 ^ r - 1) (clamped (floor i)) (clamped (floor j)) (parity i j)
+  -- it is always in bounds
+  pub in-bounds : (r : ℕ) (i j : Float) (p : PointCell) → pointOf r i j ≡ told p → inBounds r (p .triple) ≡ true
+  -- the point was moved exactly when the triple of its own floors and parity, (-n, m + n + parity, -m), is out of bounds
+  pub moved : (r : ℕ) (i j : Float) (p : PointCell) → pointOf r i j ≡ told p → (p .moved ≡ true) ↔ (inBounds r (ownTriple (floor i) (floor j) (parity i j)) ≡ false)
+  -- where it was not, that triple is the answer
+  pub unmoved : (r : ℕ) (i j : Float) (p : PointCell) → pointOf r i j ≡ told p → p .moved ≡ false → p .triple ≡ ownTriple (floor i) (floor j) (parity i j)
 
 -- ---- grammars
 -- the full drawing of a text: r passes from the starting motif that is the token m

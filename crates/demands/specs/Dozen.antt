@@ -12,6 +12,7 @@ use Rattle.turtle.specs.Corners.{tripleOf}
 use Rattle.tables.specs.Compiler.{faulty, compiledTo}
 use Rattle.lsystem.specs.declared.cell.Cell.{Cell}
 use Rattle.lsystem.specs.Cells.{cellOf}
+use Rattle.curve.specs.declared.PointCell.{PointCell}
 use Rattle.curve.specs.Points.{pointOf}
 use Rattle.code.specs.Codes.{codeBytes}
 
@@ -20,6 +21,9 @@ triple x y z = record { x = x; y = y; z = z }
 
 abbrev pub cell : ℤ → ℤ → ℤ → ℕ → Told Cell
 cell x y z f = told (record { triple = triple x y z; flavor = f })
+
+abbrev pub moved : ℤ → ℤ → ℤ → Told PointCell
+moved x y z = told (record { triple = triple x y z; moved = true })
 
 -- UV is orientation 0, UW 2, WV 5
 pub record Dozen : Type 0 where
@@ -39,10 +43,10 @@ pub record Dozen : Type 0 where
   pub case-7 : tripleOf (ab (pos 20) (negsuc 15)) ≡ told (triple (negsuc 0) (pos 1) (pos 0))
   -- 8. corner sum (14,-4) refused
   pub case-8 : tripleOf (ab (pos 14) (negsuc 3)) ≡ refused 6
-  -- 9. point (2.0, 3.0), r 1: (-1,1,0)
-  pub case-9 : pointOf 1 (fin false 1 (pos 1)) (fin false 3 (pos 0)) ≡ told (triple (negsuc 0) (pos 1) (pos 0))
-  -- 10. point (-0.25, 0.5), r 1: (0,1,0)
-  pub case-10 : pointOf 1 (fin true 1 (negsuc 1)) (fin false 1 (negsuc 0)) ≡ told (triple (pos 0) (pos 1) (pos 0))
+  -- 9. point (2.0, 3.0), r 1: (-1,1,0), moved
+  pub case-9 : pointOf 1 (fin false 1 (pos 1)) (fin false 3 (pos 0)) ≡ moved (negsuc 0) (pos 1) (pos 0)
+  -- 10. point (-0.25, 0.5), r 1: (0,1,0), moved
+  pub case-10 : pointOf 1 (fin true 1 (negsuc 1)) (fin false 1 (negsuc 0)) ≡ moved (pos 0) (pos 1) (pos 0)
   -- 11. UV r 2 s 6 codes to 02 60; WV r 1 s 3 to A1 C0
   pub case-11 : (codeBytes 0 2 6 ≡ 0x02 ∷ 0x60 ∷ []) × (codeBytes 5 1 3 ≡ 0xA1 ∷ 0xC0 ∷ [])
   -- 12. `A A+++A---AA E` with LF: refusal 20, line 1

@@ -3,7 +3,6 @@ use mathlib.Core.Path.{_≡_, sym, ap, subst, _∙_}
 use mathlib.Core.List.{List}
 use Prim.Native.Nat.{ℕ}
 use lib.Ieee.{Float}
-use Rattle.triple.specs.declared.Triple.{Triple}
 use Rattle.triple.specs.declared.domain.DomainAnswer.{DomainAnswer}
 use Rattle.triple.specs.declared.refusal.Refusal.{Refusal}
 use Rattle.triple.specs.Refusals.{Told, told, refused, numberOf, _>>=_}
@@ -11,6 +10,7 @@ use Rattle.triple.specs.Domain.{domainOf}
 use Rattle.triple.specs.Answers.{saidDomain}
 use Rattle.triple.proofs.DomainLaws.{out-of-domain, in-domain}
 use Rattle.triple.specs.Lent.{countOf, afterCall}
+use Rattle.curve.specs.declared.PointCell.{PointCell}
 use Rattle.curve.specs.declared.PointAnswer.{PointAnswer}
 use Rattle.curve.specs.Answers.{saidPoint}
 use Rattle.curve.specs.Points.{pointOf}
@@ -39,7 +39,7 @@ module _ (o r : ℕ) (i j : Float) {a : DomainAnswer} (ea : saidDomain a ≡ dom
     unfolding answerOf
     point-refused k = made-refused (pointFound o r) ep (ap saidPoint k) ∙ in-domain o r a ea m _
 
-    pub point-told : {t : Triple} → p ≡ PointAnswer.At t → {x : Told Found} → x ≡ pointFound o r t → x ≡ answerOf (Query.Point o r i j)
+    pub point-told : {c : PointCell} → p ≡ PointAnswer.At c → {x : Told Found} → x ≡ pointFound o r c → x ≡ answerOf (Query.Point o r i j)
     unfolding answerOf
     point-told k e = made-told (pointFound o r) ep (ap saidPoint k) e ∙ in-domain o r a ea m _
 

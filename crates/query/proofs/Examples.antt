@@ -19,7 +19,7 @@ use Rattle.grammar.specs.Texts.{rowsOf, lineOf, linesOf}
 use Rattle.grammar.specs.Curves.{passes, strokes, drawing}
 use Rattle.a5.specs.A5.{a5Text, a5}
 use Rattle.lsystem.specs.Cells.{drawnCell, named, cellAt, cellOf, seek, positionOf}
-use Rattle.curve.specs.Points.{near, floor, fraction, parity, settled, pointOf}
+use Rattle.curve.specs.Points.{near, floor, fraction, parity, settled, isMoved, markOf, pointOf}
 use Rattle.query.specs.Queries.{answerOf}
 use Rattle.query.specs.Lines.{headed, starts, queryOf, foundWords, answerLine}
 
@@ -33,13 +33,13 @@ pub line-examples :
     × (answerLine (67 ∷ 32 ∷ 48 ∷ 32 ∷ 50 ∷ 32 ∷ 45 ∷ 49 ∷ 32 ∷ 50 ∷ 32 ∷ 48 ∷ []) ≡ 54 ∷ 32 ∷ 51 ∷ [])
     -- C 1 2 0 3 -3 prints 0 2
     × (answerLine (67 ∷ 32 ∷ 49 ∷ 32 ∷ 50 ∷ 32 ∷ 48 ∷ 32 ∷ 51 ∷ 32 ∷ 45 ∷ 51 ∷ []) ≡ 48 ∷ 32 ∷ 50 ∷ [])
-    -- R 0 1 3FE0000000000000 3FE0000000000000 prints 0 1 0 1 1
-    × (answerLine (82 ∷ 32 ∷ 48 ∷ 32 ∷ 49 ∷ 32 ∷ 51 ∷ 70 ∷ 69 ∷ 48 ∷ 48 ∷ 48 ∷ 48 ∷ 48 ∷ 48 ∷ 48 ∷ 48 ∷ 48 ∷ 48 ∷ 48 ∷ 48 ∷ 48 ∷ 32 ∷ 51 ∷ 70 ∷ 69 ∷ 48 ∷ 48 ∷ 48 ∷ 48 ∷ 48 ∷ 48 ∷ 48 ∷ 48 ∷ 48 ∷ 48 ∷ 48 ∷ 48 ∷ 48 ∷ []) ≡ 48 ∷ 32 ∷ 49 ∷ 32 ∷ 48 ∷ 32 ∷ 49 ∷ 32 ∷ 49 ∷ [])
+    -- R 0 1 3FE0000000000000 3FE0000000000000 prints 0 1 0 1 1 0
+    × (answerLine (82 ∷ 32 ∷ 48 ∷ 32 ∷ 49 ∷ 32 ∷ 51 ∷ 70 ∷ 69 ∷ 48 ∷ 48 ∷ 48 ∷ 48 ∷ 48 ∷ 48 ∷ 48 ∷ 48 ∷ 48 ∷ 48 ∷ 48 ∷ 48 ∷ 48 ∷ 32 ∷ 51 ∷ 70 ∷ 69 ∷ 48 ∷ 48 ∷ 48 ∷ 48 ∷ 48 ∷ 48 ∷ 48 ∷ 48 ∷ 48 ∷ 48 ∷ 48 ∷ 48 ∷ 48 ∷ []) ≡ 48 ∷ 32 ∷ 49 ∷ 32 ∷ 48 ∷ 32 ∷ 49 ∷ 32 ∷ 49 ∷ 32 ∷ 48 ∷ [])
     -- P 0 1 4 prints ! 3
     × (answerLine (80 ∷ 32 ∷ 48 ∷ 32 ∷ 49 ∷ 32 ∷ 52 ∷ []) ≡ 33 ∷ 32 ∷ 51 ∷ [])
     -- C 0 1 0 2 -2 prints ! 5
     × (answerLine (67 ∷ 32 ∷ 48 ∷ 32 ∷ 49 ∷ 32 ∷ 48 ∷ 32 ∷ 50 ∷ 32 ∷ 45 ∷ 50 ∷ []) ≡ 33 ∷ 32 ∷ 53 ∷ [])
-unfolding numberOf inBounds origin _⊕_ rot rots far toggled letters strokeOf symbolOf symbolsOf move corner turnedFlavor cell cells cornerSum candidate hasCornerSum tripleOf upper mirrored reversed wordOf expandOnce rowsOf wordsOf lineOf linesOf passes strokes drawing a5Text a5 axiomMotif axiomOf isBackward isShifted placeFrom curvePlace movedBy shifted drawnCell named cellAt cellOf seek positionOf near floor fraction parity settled pointOf add sub le ofInt ofBits digitOf isDecimal upTo signed f64 digits natural integer answerOf headed starts queryOf foundWords spaced answerLine
+unfolding numberOf inBounds origin _⊕_ rot rots far toggled letters strokeOf symbolOf symbolsOf move corner turnedFlavor cell cells cornerSum candidate hasCornerSum tripleOf upper mirrored reversed wordOf expandOnce rowsOf wordsOf lineOf linesOf passes strokes drawing a5Text a5 axiomMotif axiomOf isBackward isShifted placeFrom curvePlace movedBy shifted drawnCell named cellAt cellOf seek positionOf near floor fraction parity settled isMoved markOf pointOf add sub le ofInt ofBits digitOf isDecimal upTo signed f64 digits natural integer answerOf headed starts queryOf foundWords spaced answerLine
 line-examples = (refl, refl, refl, refl, refl, refl, refl)
 
 -- the refusals in their order

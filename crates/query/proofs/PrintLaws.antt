@@ -1,5 +1,6 @@
 -- A line printed piece by piece, each put where the one before it ends; and a line that was printed aside, put into the buffer that is to have it.
 use mathlib.Core.Path.{_≡_, refl, sym, ap, _∙_, subst}
+use mathlib.Core.Bool.{Bool, true, false, cond}
 use mathlib.Core.List.{List, [], _∷_, _++_, append-assoc}
 use Prim.Native.Nat.{ℕ, suc, _+_, _^_, _≤_, _<_}
 use native.Mathlib.Omega.{arith}
@@ -24,9 +25,11 @@ use Rattle.text.proofs.DecimalLaws.{length-most}
 use Rattle.text.proofs.PutLaws.{put-roomy, put-short, put-kept, put-length, put-place, put-stored, put-then}
 use Rattle.lsystem.specs.declared.cell.Cell.{Cell}
 use Rattle.lsystem.specs.declared.Position.{Position}
+use Rattle.curve.specs.declared.PointCell.{PointCell}
+use Rattle.curve.specs.Points.{markOf}
 use Rattle.query.specs.declared.Found.{Found}
 use Rattle.query.specs.declared.FoundAnswer.{FoundAnswer}
-use Rattle.query.specs.Lines.{tripleWords, foundWords}
+use Rattle.query.specs.Lines.{tripleWords, positionWords, foundWords}
 use Rattle.query.specs.Prints.{foundText}
 use Rattle.query.specs.Answers.{saidFound}
 use Rattle.query.specs.Inside.Printing.{Printed}
@@ -84,36 +87,50 @@ unfolding spaced
 triple-then t v w = simp append-assoc
 
 module _ (found : Found) {e f : ℕ} {slice between after : List ℕ} where
-  pub cell-printed : (c : Cell) → found ≡ Found.Cell c → Put between e (32 ∷ natural (c .flavor)) after f → Printed 35 slice (spaced (tripleWords (c .triple) [])) between e → c .flavor < 2 ^ 8 → 60 ≤ length slice → Printed 60 slice (foundText (told found)) after f
+  pub cell-printed : (c : Cell) → found ≡ Found.Cell c → Put between e (32 ∷ natural (c .flavor)) after f → Printed 35 slice (spaced (tripleWords (c .triple) [])) between e → c .flavor < 2 ^ 8 → 62 ≤ length slice → Printed 62 slice (foundText (told found)) after f
   unfolding foundWords spaced
   cell-printed c p a b m h = rw p (line-as (next-piece 4 b a (omega (arith, u8-length (c .flavor) m)) (omega arith)) (triple-then (c .triple) (natural (c .flavor)) []) (omega arith))
 
-  pub position-printed : (p : Position) → found ≡ Found.Position p → Put between e (32 ∷ natural (p .flavor)) after f → Put slice 0 (natural (p .s)) between e → p .s < 2 ^ 64 → p .flavor < 2 ^ 8 → 60 ≤ length slice → Printed 60 slice (foundText (told found)) after f
+  pub position-printed : (p : Position) → found ≡ Found.Position p → Put between e (32 ∷ natural (p .flavor)) after f → Put slice 0 (natural (p .s)) between e → p .s < 2 ^ 64 → p .flavor < 2 ^ 8 → 62 ≤ length slice → Printed 62 slice (foundText (told found)) after f
   unfolding foundWords spaced
   position-printed p q a b m n h = rw q (line-as (next-piece 4 (first-piece 20 b (u64-length (p .s) m)) a (omega (arith, u8-length (p .flavor) n)) (omega arith)) refl (omega arith))
 
-pub found-point : (found : Found) (t : Triple) (p : Position) → found ≡ Found.Point t p → {f : ℕ} {slice after : List ℕ} → Printed 60 slice (foundText (told (Found.Point t p))) after f → Printed 60 slice (foundText (told found)) after f
-found-point found t p q a = rw q a
+pub found-point : (found : Found) (c : PointCell) (p : Position) → found ≡ Found.Point c p → {f : ℕ} {slice after : List ℕ} → Printed 62 slice (foundText (told (Found.Point c p))) after f → Printed 62 slice (foundText (told found)) after f
+found-point found c p q a = rw q a
 
-pub point-printed : (t : Triple) (p : Position) {d e f : ℕ} {slice first between after : List ℕ} → Put between e (32 ∷ natural (p .flavor)) after f → Put first d (32 ∷ natural (p .s)) between e → Printed 35 slice (spaced (tripleWords t [])) first d → p .s < 2 ^ 64 → p .flavor < 2 ^ 8 → 60 ≤ length slice → Printed 60 slice (foundText (told (Found.Point t p))) after f
-unfolding foundWords spaced
-point-printed t p {e} {slice} {between} a b c m n h =
+mark-length : (c : PointCell) → length (natural (markOf c)) ≤ 1
+unfolding markOf
+mark-length c = go (c .moved)
+  where
+    go : (b : Bool) → length (natural (cond b 1 0)) ≤ 1
+    go true = length-most 0 1 (omega arith)
+    go false = length-most 0 0 (omega arith)
+
+pub named-printed : (t : Triple) (p : Position) {d e f : ℕ} {slice first between after : List ℕ} → Put between e (32 ∷ natural (p .flavor)) after f → Put first d (32 ∷ natural (p .s)) between e → Printed 35 slice (spaced (tripleWords t [])) first d → p .s < 2 ^ 64 → p .flavor < 2 ^ 8 → 60 ≤ length slice
+    → Printed 60 slice (spaced (tripleWords t (positionWords p []))) after f
+unfolding spaced
+named-printed t p {e} {slice} {between} a b c m n h =
     let s : Printed 56 slice (spaced (tripleWords t []) ++ (32 ∷ natural (p .s))) between e = next-piece 21 c b (omega (arith, u64-length (p .s) m)) (omega arith) in
     let l = next-piece 4 s a (omega (arith, u8-length (p .flavor) n)) (omega arith) in
     line-as l (append-assoc (spaced (tripleWords t [])) (32 ∷ natural (p .s)) (32 ∷ natural (p .flavor)) ∙ triple-then t (natural (p .s)) (natural (p .flavor) ∷ [])) (omega arith)
 
+pub point-printed : (c : PointCell) (p : Position) {mark : ℕ} → mark ≡ markOf c → {e f : ℕ} {slice between after : List ℕ} → Put between e (32 ∷ natural mark) after f → Printed 60 slice (spaced (tripleWords (c .triple) (positionWords p []))) between e → 62 ≤ length slice
+    → Printed 62 slice (foundText (told (Found.Point c p))) after f
+unfolding foundWords spaced
+point-printed c p mark-is a b h = line-as (next-piece 2 b (rw mark-is at a) (omega (arith, mark-length c)) (omega arith)) (simp append-assoc) (omega arith)
+
 module _ (answer : FoundAnswer) {f : ℕ} {slice after : List ℕ} where
-  pub found-printed : (found : Found) → answer ≡ FoundAnswer.Found found → Printed 60 slice (foundText (told found)) after f → Printed 60 slice (foundText (saidFound answer)) after f
+  pub found-printed : (found : Found) → answer ≡ FoundAnswer.Found found → Printed 62 slice (foundText (told found)) after f → Printed 62 slice (foundText (saidFound answer)) after f
   found-printed found p a = rw p a
 
-  pub refusal-printed : (e : Refusal) → answer ≡ FoundAnswer.Refused e → (n : ℕ) → n ≡ numberOf e → {d : ℕ} {between : List ℕ} → Put between d (32 ∷ natural n) after f → Put slice 0 (33 ∷ []) between d → n < 2 ^ 8 → 60 ≤ length slice → Printed 60 slice (foundText (saidFound answer)) after f
+  pub refusal-printed : (e : Refusal) → answer ≡ FoundAnswer.Refused e → (n : ℕ) → n ≡ numberOf e → {d : ℕ} {between : List ℕ} → Put between d (32 ∷ natural n) after f → Put slice 0 (33 ∷ []) between d → n < 2 ^ 8 → 62 ≤ length slice → Printed 62 slice (foundText (saidFound answer)) after f
   unfolding foundWords spaced
   refusal-printed e p n q a b m h =
       let mark = first-piece 1 b (omega arith) in
       rw (p, ← q) (line-as (next-piece 4 mark a (omega (arith, u8-length n m)) (omega arith)) refl (omega arith))
 
 -- ---- a line that was written aside, and the buffer that is to have it
-module _ (text zeros aside : List ℕ) (n : ℕ) (w : Printed 60 zeros text aside n) (z : 60 ≤ length zeros) where
+module _ (text zeros aside : List ℕ) (n : ℕ) (w : Printed 62 zeros text aside n) (z : 62 ≤ length zeros) where
   aside-room : 0 + length text ≤ length zeros
   aside-room = omega (arith, w .near)
 

@@ -8,6 +8,8 @@ use lib.ListN.{length, getD}
 use Rattle.triple.specs.declared.Triple.{Triple}
 use Rattle.triple.specs.declared.refusal.Refusal.the-variants as Is
 use Rattle.triple.specs.Refusals.{Told, told, refused, numberOf, refuse, _>>=_}
+use Rattle.lsystem.specs.declared.Position.{Position}
+use Rattle.curve.specs.Points.{markOf}
 use Rattle.text.specs.Words.{wordsOf, spaced}
 use Rattle.text.specs.Decimals.{u8, u64, i32, natural, integer}
 use Rattle.text.specs.Patterns.{f64}
@@ -60,14 +62,17 @@ queryOf line =
     (cond (starts 67 6 w) (headed cellRest w)
     (cond (starts 82 5 w) (headed pointRest w) (refused (numberOf Is.Line)))))
 
--- ---- the answer's words: triple and flavor; position and flavor; triple, position and flavor; or ! and the number
+-- ---- the answer's words: triple and flavor; position and flavor; triple, position, flavor and mark; or ! and the number
 abbrev pub tripleWords : Triple → List (List ℕ) → List (List ℕ)
 tripleWords t w = integer (t .x) ∷ integer (t .y) ∷ integer (t .z) ∷ w
 
+abbrev pub positionWords : Position → List (List ℕ) → List (List ℕ)
+positionWords p w = natural (p .s) ∷ natural (p .flavor) ∷ w
+
 unfoldable pub foundWords : Told Found → List (List ℕ)
 foundWords (told (Found.Cell c)) = tripleWords (c .triple) (natural (c .flavor) ∷ [])
-foundWords (told (Found.Position p)) = natural (p .s) ∷ natural (p .flavor) ∷ []
-foundWords (told (Found.Point t p)) = tripleWords t (natural (p .s) ∷ natural (p .flavor) ∷ [])
+foundWords (told (Found.Position p)) = positionWords p []
+foundWords (told (Found.Point c p)) = tripleWords (c .triple) (positionWords p (natural (markOf c) ∷ []))
 foundWords (refused n) = (33 ∷ []) ∷ natural n ∷ []
 
 -- THE LINE that a line prints

@@ -1,16 +1,16 @@
 -- What a query finds.
 use Prim.Native.Nat.{ℕ}
-use Rattle.triple.specs.declared.Triple.{Triple}
 use Rattle.triple.specs.Refusals.{Told, told, _>>=_}
 use Rattle.triple.specs.Domain.{inDomain}
+use Rattle.curve.specs.declared.PointCell.{PointCell}
 use Rattle.curve.specs.Points.{pointOf}
 use Rattle.lsystem.specs.Cells.{cellOf, positionOf}
 use Rattle.query.specs.declared.Query.{Query}
 use Rattle.query.specs.declared.Found.{Found}
 
--- what is found at the triple of a point
-abbrev pub pointFound : ℕ → ℕ → Triple → Told Found
-pointFound o r t = positionOf o r t >>= λ p. told (Found.Point t p)
+-- what is found at the cell of a point, which is handed on with its mark
+abbrev pub pointFound : ℕ → ℕ → PointCell → Told Found
+pointFound o r c = positionOf o r (c .triple) >>= λ p. told (Found.Point c p)
 
 -- THE ANSWER to a query
 unfoldable pub answerOf : Query → Told Found

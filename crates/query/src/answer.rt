@@ -14,6 +14,7 @@ use crate::line::read_line;
 use crate::print::PrintAnswer;
 use crate::print::print;
 use curve::PointAnswer;
+use curve::PointCell;
 use curve::round_to_triple;
 use lsystem::cell::CellAnswer;
 use lsystem::cell::s_to_cell;
@@ -62,17 +63,18 @@ fn point_found(o: u8, r: u8, i: f64, j: f64) -> FoundAnswer
     }
     let rounded = round_to_triple(i, j, r);
     match rounded {
-        PointAnswer::At(t) => point_position(o, r, t),
+        PointAnswer::At(c) => point_position(o, r, c),
         PointAnswer::Refused(e) => FoundAnswer::Refused(e),
     }
 }
 
-fn point_position(o: u8, r: u8, t: Triple) -> FoundAnswer
-    ensures { λ a. ⌜ saidFound a ≡ pointFound o r t ⌝ }
+fn point_position(o: u8, r: u8, c: PointCell) -> FoundAnswer
+    ensures { λ a. ⌜ saidFound a ≡ pointFound o r c ⌝ }
 {
+    let t = c.triple;
     let found = triple_to_s(o, r, t);
     match found {
-        PositionAnswer::At(p) => FoundAnswer::Found(Found::Point(t, p)),
+        PositionAnswer::At(p) => FoundAnswer::Found(Found::Point(c, p)),
         PositionAnswer::Refused(e) => FoundAnswer::Refused(e),
     }
 }

@@ -1,6 +1,7 @@
 // Answers for queries: a line of bytes read into one, what it finds, and that printed as a line.
 // What is found is `lsystem`'s and `curve`'s, words and numbers are `text`'s; the lines of an input and
 // the output are the program `wedge`'s.
+use curve::PointCell;
 use lsystem::Position;
 use lsystem::cell::Cell;
 use triple::Triple;
@@ -17,11 +18,11 @@ pub enum Query {
     Point(u8, u8, f64, f64),
 }
 
-// A position's cell; a triple's position; a point's triple and its position.
+// A position's cell; a triple's position; a point's cell and its position.
 pub enum Found {
     Cell(Cell),
     Position(Position),
-    Point(Triple, Position),
+    Point(PointCell, Position),
 }
 
 pub enum QueryAnswer {

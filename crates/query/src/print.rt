@@ -5,7 +5,7 @@ ghost use Prim.Native.Nat.{_≤_};
 ghost use lib.ListN.{length};
 ghost use Rattle.text.specs.Words.{spaced};
 ghost use Rattle.query.specs.declared.Found.{Found};
-ghost use Rattle.query.specs.Lines.{tripleWords};
+ghost use Rattle.query.specs.Lines.{tripleWords, positionWords};
 ghost use Rattle.query.specs.Prints.{foundText};
 ghost use Rattle.query.specs.Answers.{saidFound, saidPrint};
 ghost use Rattle.query.specs.Inside.Printing.{Printed};
@@ -13,6 +13,7 @@ ghost use Rattle.triple.specs.Refusals.{told};
 ghost use Rattle.triple.specs.Lent.{countOf, afterCall};
 use crate::Found;
 use crate::FoundAnswer;
+use curve::PointCell;
 use lsystem::Position;
 use text::put::put;
 use text::put::put_bytes;
@@ -28,7 +29,8 @@ pub enum PrintAnswer {
     Refused(Refusal),
 }
 
-// An i32 takes at most 11 bytes, a u64 20 and a u8 3: so a triple at most 35, and a line at most 60.
+// An i32 takes at most 11 bytes, a u64 20, a u8 3 and a mark 1: so a triple at most 35, and a line at
+// most 62.
 fn write_triple(out: &mut [u8], t: Triple) -> usize
     requires { ⌜ 35 ≤ length (now out) ⌝ }
     ensures { λ e. ⌜ Printed 35 (now (out .entry)) (spaced (tripleWords t [])) (now (out .exit)) e ⌝ }
@@ -41,9 +43,9 @@ fn write_triple(out: &mut [u8], t: Triple) -> usize
     put_next_integer(out, after_y, z)
 }
 
-fn write_point(out: &mut [u8], t: Triple, p: Position) -> usize
+fn write_named(out: &mut [u8], t: Triple, p: Position) -> usize
     requires { ⌜ 60 ≤ length (now out) ⌝ }
-    ensures { λ e. ⌜ Printed 60 (now (out .entry)) (foundText (told (Found.Point t p))) (now (out .exit)) e ⌝ }
+    ensures { λ e. ⌜ Printed 60 (now (out .entry)) (spaced (tripleWords t (positionWords p []))) (now (out .exit)) e ⌝ }
 {
     let s = p.s;
     let flavor = p.flavor;
@@ -52,9 +54,18 @@ fn write_point(out: &mut [u8], t: Triple, p: Position) -> usize
     put_next_natural(out, after_s, flavor as u64)
 }
 
+fn write_point(out: &mut [u8], c: PointCell, p: Position) -> usize
+    requires { ⌜ 62 ≤ length (now out) ⌝ }
+    ensures { λ e. ⌜ Printed 62 (now (out .entry)) (foundText (told (Found.Point c p))) (now (out .exit)) e ⌝ }
+{
+    let t = c.triple;
+    let after_position = write_named(out, t, p);
+    put_next_natural(out, after_position, c.mark() as u64)
+}
+
 fn write_found(out: &mut [u8], found: Found) -> usize
-    requires { ⌜ 60 ≤ length (now out) ⌝ }
-    ensures { λ e. ⌜ Printed 60 (now (out .entry)) (foundText (told found)) (now (out .exit)) e ⌝ }
+    requires { ⌜ 62 ≤ length (now out) ⌝ }
+    ensures { λ e. ⌜ Printed 62 (now (out .entry)) (foundText (told found)) (now (out .exit)) e ⌝ }
 {
     match found {
         Found::Cell(c) => {
@@ -69,13 +80,13 @@ fn write_found(out: &mut [u8], found: Found) -> usize
             let after_s = put_natural(out, 0, s);
             put_next_natural(out, after_s, flavor as u64)
         }
-        Found::Point(t, p) => write_point(out, t, p),
+        Found::Point(c, p) => write_point(out, c, p),
     }
 }
 
 fn write(out: &mut [u8], found: FoundAnswer) -> usize
-    requires { ⌜ 60 ≤ length (now out) ⌝ }
-    ensures { λ e. ⌜ Printed 60 (now (out .entry)) (foundText (saidFound found)) (now (out .exit)) e ⌝ }
+    requires { ⌜ 62 ≤ length (now out) ⌝ }
+    ensures { λ e. ⌜ Printed 62 (now (out .entry)) (foundText (saidFound found)) (now (out .exit)) e ⌝ }
 {
     match found {
         FoundAnswer::Found(f) => write_found(out, f),
@@ -90,7 +101,7 @@ fn write(out: &mut [u8], found: FoundAnswer) -> usize
 pub fn print(found: FoundAnswer, out: &mut [u8]) -> PrintAnswer
     ensures { λ p. ⌜ (saidPrint p ≡ countOf (told (foundText (saidFound found))) (now (out .entry))) × (now (out .exit) ≡ afterCall (told (foundText (saidFound found))) (now (out .entry))) ⌝ }
 {
-    let mut text = [0u8; 60];
+    let mut text = [0u8; 62];
     let n = write(&mut text, found);
     let end = put_bytes(out, 0, &text[..n]);
     if end > out.len() {

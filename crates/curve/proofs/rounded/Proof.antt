@@ -18,4 +18,5 @@ rounded-spec =
     (λ c. search (needs, rounding))
     (λ c. search (needs, rounding))
     (λ c κs. search (needs, rounding))
+    (λ c κs. search (needs, rounding))
     (λ c. search (needs, rounding)))

@@ -1,4 +1,4 @@
--- `answer::point_position`: the point's triple and its position, or the refusal.
+-- `answer::point_position`: the point's cell and its position, or the refusal.
 use borrow.Author.Needs.{needs}
 use mathlib.Core.Path.{_≡_, refl, sym, ap, _∙_}
 use Rattle.triple.specs.Refusals.{told}
