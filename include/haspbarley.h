@@ -127,9 +127,9 @@ uint8_t hb_triple(int64_t a, int64_t b, int32_t *out, size_t out_len);
 uint8_t hb_code_write(uint8_t orientation, uint8_t resolution, uint64_t s, uint8_t *bytes, size_t bytes_len,
                       uint64_t *out, size_t out_len);
 
-/* Reads the code at the front of some bytes. Spare bits and later bytes are not looked at.
+/* Reads the code at the front of some bytes. Later bytes are not looked at.
  * Values: orientation resolution s count (4), count being how many bytes the code takes.
- * Refusals: 11 where there is no byte, 1, 2, 11 where the code is cut short, 10. */
+ * Refusals: 11 where there is no byte, 1, 2, 11 where the code is cut short, 24 where a spare bit is set, 10. */
 uint8_t hb_code_read(const uint8_t *bytes, size_t bytes_len, uint64_t *out, size_t out_len);
 
 /* The answer to one query line, of at most HB_LINE_BYTES without LF, as the program wedge prints it,

@@ -123,17 +123,20 @@ fn words(bytes: &[u8]) -> String {
     bytes.iter().map(|b| b.to_string()).collect::<Vec<_>>().join(" ")
 }
 
-// A code written, read, read with bytes after it, with its spare bits set, and cut short.
+// A code written, read, read with bytes after it, with its spare bits set, where it has any, and cut short.
 fn by_position(o: u8, r: u8, s: u64, random: &mut Random) {
     let bytes = code(o, r, s);
     let read = format!("{o} {r} {s} {}", bytes.len());
     println!("W {o} {r} {s}\t{}", words(&bytes));
     println!("K {}\t{read}", words(&bytes));
-    let mut spoilt = bytes.clone();
+    let later: Vec<u8> = (0..random.below(5)).map(|_| random.0 as u8).collect();
+    println!("K {}\t{read}", words(&[&bytes[..], &later[..]].concat()));
     let spare = bytes.len() * 8 - bits_of_code(o, r, s).len();
-    *spoilt.last_mut().unwrap() |= (1u16 << spare) as u8 - 1;
-    spoilt.extend((0..random.below(5)).map(|_| random.0 as u8));
-    println!("K {}\t{read}", words(&spoilt));
+    if spare > 0 {
+        let mut spoilt = bytes.clone();
+        *spoilt.last_mut().unwrap() |= (1 << spare) - 1;
+        println!("K {}\t! 24", words(&[&spoilt[..], &later[..]].concat()));
+    }
     let cut = random.below(bytes.len() as u64) as usize;
     if cut > 0 {
         println!("K {}\t! 11", words(&bytes[..cut]));
@@ -154,6 +157,8 @@ fn codes(random: &mut Random) {
     refused(2, &["W 6 0 0", "W 6 30 18446744073709551615", "W 255 1 9", "K 192", "K 193 0", "K 224", "K 254 1 2 3 4 5 6 7 8 9"]);
     refused(3, &["W 0 0 1", "W 5 30 18446744073709551615"]);
     refused(11, &["K", "K 1", "K 161", "K 30", "K 30 1 2 3 4 5 6 7"]);
+    // each spare bit alone
+    refused(24, &["K 161 193", "K 161 194", "K 161 196", "K 161 200", "K 161 208", "K 161 224", "K 30 0 0 0 0 0 0 0 1", "K 30 0 0 0 0 0 0 0 8 0"]);
 }
 
 // ---- child steps

@@ -177,6 +177,8 @@ static void refused(void)
     uint64_t read[4] = {7, 7, 7, 7};
     status = hb_code_read(NULL, 0, read, 4);
     printf("read no byte: ! %d, left %" PRIu64 "\n", status, read[0]);
+    status = hb_code_read((const uint8_t[]){0xA1, 0xC1}, 2, read, 4);
+    printf("read A1 C1, with a spare bit set: ! %d, left %" PRIu64 "\n", status, read[0]);
 }
 
 int main(void)

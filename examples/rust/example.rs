@@ -267,6 +267,8 @@ fn refused() {
     let mut read = [7; 4];
     let status = haspbarley::code_read(&[], &mut read);
     println!("read no byte: ! {status}, left {}", read[0]);
+    let status = haspbarley::code_read(&[0xA1, 0xC1], &mut read);
+    println!("read A1 C1, with a spare bit set: ! {status}, left {}", read[0]);
 }
 
 fn main() {

@@ -22,7 +22,7 @@ spareBits r = 8 * positionBytes r - 2 * r
 pub bits-filled : (r : ℕ) → 2 * r + spareBits r ≡ 8 * positionBytes r
 bits-filled r = omega arith
 
-spare-is : (r : ℕ) → 8 * codeLength r - (8 + 2 * r) ≡ spareBits r
+pub spare-is : (r : ℕ) → 8 * codeLength r - (8 + 2 * r) ≡ spareBits r
 unfolding codeLength
 spare-is r = omega arith
 

@@ -5,7 +5,7 @@ use Prim.Native.Nat.{ℕ, _-_, _^_}
 use Rattle.triple.specs.Refusals.{Told, told, refused, numberOf}
 use Rattle.triple.specs.Lent.{countOf, afterCall}
 use Rattle.code.specs.declared.Reading.{Reading}
-use Rattle.code.specs.Codes.{bitsOf, valueOf, bytesOf, allBits, codeLength, codeBits, codeBytes, codeOf, readOf}
+use Rattle.code.specs.Codes.{bitsOf, valueOf, bytesOf, allBits, codeLength, codeBits, codeBytes, codeOf, spareOf, looseOf, readOf}
 
 abbrev reading : ℕ → ℕ → ℕ → ℕ → Told Reading
 reading o r s n = told (record { orientation = o; resolution = r; s = s; used = n })
@@ -31,13 +31,15 @@ pub write-examples :
 unfolding numberOf bitsOf valueOf bytesOf codeLength codeBits codeBytes codeOf countOf afterCall
 write-examples = (refl, refl, refl, refl, refl, refl, refl)
 
--- a reader's answers, with spare bits set and a later byte there, and its refusals in their order
+-- a reader's answers, with later bytes there, and its refusals in their order; the spare bits are the last to be looked at, and each of them is
 pub read-examples :
     (readOf (0x02 ∷ 0x60 ∷ []) ≡ reading 0 2 6 2)
-    × (readOf (0xA1 ∷ 0xFF ∷ 0xFF ∷ []) ≡ reading 5 1 3 2)
+    × (readOf (0xA1 ∷ 0xC0 ∷ 0xFF ∷ []) ≡ reading 5 1 3 2)
     × (readOf [] ≡ refused 11)
     × (readOf (0xDF ∷ []) ≡ refused 1)
     × (readOf (0xDE ∷ []) ≡ refused 2)
-    × (readOf (0xBE ∷ 0 ∷ []) ≡ refused 11)
-unfolding numberOf bitsOf valueOf allBits codeLength readOf
-read-examples = (refl, refl, refl, refl, refl, refl)
+    × (readOf (0xBE ∷ 0xFF ∷ []) ≡ refused 11)
+    × (readOf (0xA1 ∷ 0xC1 ∷ []) ≡ refused 24)
+    × (readOf (0xA1 ∷ 0xE0 ∷ []) ≡ refused 24)
+unfolding numberOf bitsOf valueOf allBits codeLength spareOf looseOf readOf
+read-examples = (refl, refl, refl, refl, refl, refl, refl, refl)

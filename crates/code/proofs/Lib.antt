@@ -8,8 +8,12 @@ pub mod ByteLaws
 pub mod CodeLaws
 -- the writer at each of its tests, and the loop that writes
 pub mod WriteLaws
--- the reader at each of its tests
+-- the reader at each of its tests but the last
 pub mod ReadLaws
+-- spare bits, and the reader's last test
+pub mod SpareLaws
+-- a code has one spelling
+pub mod Canonical
 -- what is written is read back
 pub mod RoundTrip
 -- ---- all operations

@@ -1,4 +1,4 @@
--- What a reader answers, in arithmetic: the first byte tells the orientation and the resolution, and the bytes after it, joined, the position above the spare bits.
+-- What a reader answers that does not look at spare bits, in arithmetic: the first byte tells the orientation and the resolution, and the bytes after it, joined, the position above the spare bits.
 use mathlib.Core.Path.{_≡_, refl, sym, ap, ap₂, _∙_}
 use mathlib.Core.List.{List, [], _∷_, _++_, append-assoc}
 use Prim.Native.Nat.{ℕ, _+_, _-_, _*_, _/_, _%_, _^_, _≤_, _<_}
@@ -18,7 +18,7 @@ use Rattle.triple.specs.Domain.{inDomain, domainOf}
 use Rattle.triple.specs.Answers.{saidDomain}
 use Rattle.triple.proofs.DomainLaws.{out-of-domain, in-domain, shallow}
 use Rattle.code.specs.declared.Reading.{Reading}
-use Rattle.code.specs.Codes.{bitsOf, valueOf, allBits, codeLength, readOf}
+use Rattle.code.specs.Codes.{bitsOf, valueOf, allBits, codeLength, looseOf}
 use Rattle.code.proofs.BitLaws.{length-bits, bits-split, value-whole, value-front}
 use Rattle.code.proofs.ByteLaws.{number, all-bits, all-bits-append}
 use Rattle.code.proofs.CodeLaws.{positionBytes, spareBits, bits-filled}
@@ -41,7 +41,7 @@ front-shifted m k n rest =
     ap (λ (v : ℕ). v / 2 ^ k) (value-whole (m + k) n) ∙ field n m k
     ∙ (rw (bits-split m k n, append-assoc) (sym (value-front m (n / 2 ^ k) (bitsOf k n ++ rest))))
 
-position-read : (r : ℕ) (rest : List ℕ) → positionBytes r ≤ length rest
+pub position-read : (r : ℕ) (rest : List ℕ) → positionBytes r ≤ length rest
     → valueOf (allBits (take (positionBytes r) rest)) / 2 ^ spareBits r ≡ valueOf (take (2 * r) (allBits rest))
 position-read r rest h =
     let front = take (positionBytes r) rest in
@@ -70,35 +70,35 @@ few-bytes bytes r e o ea m = simp (length-take, length-drop) (omega (arith, shal
 
 -- ---- its answers, from what it has in hand
 -- the tests after the first, by the first byte
-fromFirst : ℕ → List ℕ → Told Reading
+unfoldable pub fromFirst : ℕ → List ℕ → Told Reading
 fromFirst b bytes =
     inDomain (b / 32) (b % 32)
     (refuse (ltb (length bytes) (codeLength (b % 32))) Is.Code
     (told (record { orientation = b / 32; resolution = b % 32; s = valueOf (take (2 * (b % 32)) (allBits (drop 1 bytes))); used = codeLength (b % 32) })))
 
-read-first : (bytes : List ℕ) → (length bytes ≡ 0 → ⊥) → getD bytes 0 0 < 256 → fromFirst (getD bytes 0 0) bytes ≡ readOf bytes
-unfolding readOf fromFirst allBits
+pub read-first : (bytes : List ℕ) → (length bytes ≡ 0 → ⊥) → getD bytes 0 0 < 256 → fromFirst (getD bytes 0 0) bytes ≡ looseOf bytes
+unfolding looseOf fromFirst allBits
 read-first [] some small = absurd (some refl)
 read-first (b ∷ rest) some small =
     rw (ne-eqb _ _ some, orientation-read b rest small, resolution-read b rest, drop-at (bitsOf 8 b) (allBits rest) 8 (length-bits 8 b))
 
 module _ (bytes : List ℕ) where
-  pub read-empty : length bytes ≡ 0 → refused (numberOf Is.Code) ≡ readOf bytes
-  unfolding readOf
+  pub read-empty : length bytes ≡ 0 → refused (numberOf Is.Code) ≡ looseOf bytes
+  unfolding looseOf
   read-empty h = simp (eq-eqb _ _ h)
 
   module _ (some : length bytes ≡ 0 → ⊥) (small : (i : ℕ) → Fits w8 (getD bytes i 0)) {a : DomainAnswer} (ea : saidDomain a ≡ domainOf (getD bytes 0 0 / 32) (getD bytes 0 0 % 32)) where
-    pub read-outside : {e : Refusal} → a ≡ DomainAnswer.Refused e → refused (numberOf e) ≡ readOf bytes
+    pub read-outside : {e : Refusal} → a ≡ DomainAnswer.Refused e → refused (numberOf e) ≡ looseOf bytes
     unfolding fromFirst
     read-outside m = out-of-domain (getD bytes 0 0 / 32) (getD bytes 0 0 % 32) a ea _ m ∙ read-first bytes some (small 0 .fits)
 
     module _ (m : a ≡ DomainAnswer.In) {used : ℕ} (length-is : used ≡ codeLength (getD bytes 0 0 % 32)) where
-      pub read-cut : length bytes < used → refused (numberOf Is.Code) ≡ readOf bytes
+      pub read-cut : length bytes < used → refused (numberOf Is.Code) ≡ looseOf bytes
       unfolding fromFirst
       read-cut l = simp (lt-ltb _ _ (rw length-is at l)) (in-domain (getD bytes 0 0 / 32) (getD bytes 0 0 % 32) a ea m _) ∙ read-first bytes some (small 0 .fits)
 
       pub read-whole : used ≤ length bytes → {v spare : ℕ} → v ≡ valueOf (allBits (take (used - 1) (drop 1 bytes))) → spare ≡ spareBits (getD bytes 0 0 % 32)
-          → told (record { orientation = getD bytes 0 0 / 32; resolution = getD bytes 0 0 % 32; s = v / 2 ^ spare; used = used }) ≡ readOf bytes
+          → told (record { orientation = getD bytes 0 0 / 32; resolution = getD bytes 0 0 % 32; s = v / 2 ^ spare; used = used }) ≡ looseOf bytes
       unfolding fromFirst
       read-whole l e f =
           ap₂ {C = Told Reading} (λ (p n : ℕ). told (record { orientation = getD bytes 0 0 / 32; resolution = getD bytes 0 0 % 32; s = p; used = n }))

@@ -3,7 +3,7 @@ use mathlib.Core.Path.{_≡_, refl, sym, ap, _∙_}
 use mathlib.Core.Bool.{Bool, true, false}
 use mathlib.Core.List.{List, _++_, append-assoc}
 use Prim.Native.Nat.{ℕ, _+_, _-_, _*_, _%_, _^_, _≤_, _<_}
-use native.Mathlib.Nat.{mod-eq-of-lt}
+use native.Mathlib.Nat.{mod-eq-of-lt, zero-mod}
 use native.Mathlib.Omega.{arith}
 use lib.Dec.{ltb, leb}
 use lib.ListN.{length, take, drop, replicate, length-append}
@@ -18,8 +18,8 @@ use Rattle.triple.specs.Lent.{countOf, afterCall}
 use Rattle.triple.proofs.DomainLaws.{domain-in}
 use Rattle.triple.proofs.RefusalLaws.{passed}
 use Rattle.triple.proofs.LentLaws.{wrote}
-use Rattle.code.specs.Codes.{bitsOf, valueOf, allBits, codeLength, codeBits, codeBytes, codeOf, readOf}
-use Rattle.code.proofs.BitLaws.{length-bits, value-front}
+use Rattle.code.specs.Codes.{bitsOf, valueOf, allBits, codeLength, codeBits, codeBytes, codeOf, spareOf, looseOf, readOf}
+use Rattle.code.proofs.BitLaws.{length-bits, bits-zero, value-front}
 use Rattle.code.proofs.ByteLaws.{all-bits-append, bits-of-byte, bits-of-bytes}
 use Rattle.code.proofs.CodeLaws.{code-bits, code-bytes, length-code, positionBytes, spareBits}
 
@@ -49,21 +49,35 @@ module _ (o r s : ℕ) (rest : List ℕ) where
   resolution-back : r ≤ 30 → valueOf (take 5 (drop 3 bits)) ≡ r
   resolution-back h = rw dropped (value-front 5 r _ ∙ omega arith)
 
+  later : drop 8 bits ≡ bitsOf (2 * r) s ++ behind
+  later = sym (drop-drop 5 3 bits) ∙ ap (drop 5) dropped ∙ drop-at (bitsOf 5 r) _ 5 (length-bits 5 r)
+
   position-back : s < 4 ^ r → valueOf (take (2 * r) (drop 8 bits)) ≡ s
-  position-back h =
-      let e : drop 8 bits ≡ bitsOf (2 * r) s ++ behind =
-      sym (drop-drop 5 3 bits) ∙ ap (drop 5) dropped ∙ drop-at (bitsOf 5 r) _ 5 (length-bits 5 r) in
-      rw e (value-front (2 * r) s behind ∙ mod-eq-of-lt (rw (four-by-shift r) h))
+  position-back h = rw later (value-front (2 * r) s behind ∙ mod-eq-of-lt (rw (four-by-shift r) h))
+
+  spare-back : spareOf r (codeBytes o r s ++ rest) ≡ 0
+  unfolding spareOf
+  spare-back =
+      let k = 8 * codeLength r - (8 + 2 * r) in
+      let e : drop (8 + 2 * r) bits ≡ bitsOf k 0 ++ allBits rest =
+      sym (drop-drop (2 * r) 8 bits) ∙ ap (drop (2 * r)) later ∙ drop-at (bitsOf (2 * r) s) behind (2 * r) (length-bits (2 * r) s)
+      ∙ ap (λ (l : List ℕ). l ++ allBits rest) (bits-zero k) in
+      rw e (value-front k 0 (allBits rest) ∙ zero-mod (2 ^ k))
 
   long : (length (codeBytes o r s ++ rest) ≡ 0 → ⊥) × (codeLength r ≤ length (codeBytes o r s ++ rest))
   unfolding codeLength
   long = let e = length-append (codeBytes o r s) rest ∙ ap (λ (n : ℕ). n + length rest) (length-code o r s) in (λ z. omega (arith, e, z), omega arith)
 
+  loose-back : o ≤ 5 → r ≤ 30 → s < 4 ^ r
+      → looseOf (codeBytes o r s ++ rest) ≡ told (record { orientation = o; resolution = r; s = s; used = codeLength r })
+  unfolding looseOf
+  loose-back ho hr hs =
+      rw (orientation-back ho, resolution-back hr, position-back hs) (simp (ne-eqb _ _ (long .0), le-ltb _ _ (long .1)) (sym (domain-in o r _ hr ho)))
+
   pub read-back : o ≤ 5 → r ≤ 30 → s < 4 ^ r
       → readOf (codeBytes o r s ++ rest) ≡ told (record { orientation = o; resolution = r; s = s; used = codeLength r })
   unfolding readOf
-  read-back ho hr hs =
-      rw (orientation-back ho, resolution-back hr, position-back hs) (simp (ne-eqb _ _ (long .0), le-ltb _ _ (long .1)) (sym (domain-in o r _ hr ho)))
+  read-back ho hr hs = rw (loose-back ho hr hs, spare-back)
 
 -- ---- over a buffer: what a writer has answered is what a reader finds
 -- of what is coded, all tests are passed

@@ -1,10 +1,10 @@
 -- The position code, through its bits: its bytes, what a writer does and what a reader answers.
 use mathlib.Core.List.{List, [], _∷_, _++_}
-use Prim.Native.Nat.{ℕ, zero, suc, _+_, _-_, _*_, _/_, _%_, _^_}
+use Prim.Native.Nat.{ℕ, zero, suc, _+_, _-_, _*_, _/_, _%_, _^_, _<_}
 use lib.Dec.{leb, ltb, eqb}
-use lib.ListN.{length, take, drop, replicate}
+use lib.ListN.{length, getD, take, drop, replicate}
 use Rattle.triple.specs.declared.refusal.Refusal.the-variants as Is
-use Rattle.triple.specs.Refusals.{Told, told, refused, refuse}
+use Rattle.triple.specs.Refusals.{Told, told, refused, refuse, _>>=_}
 use Rattle.triple.specs.Domain.{inDomain}
 use Rattle.code.specs.declared.Reading.{Reading}
 
@@ -50,10 +50,10 @@ codeOf o r s =
     (refuse (leb (4 ^ r) s) Is.Position
     (told (codeBytes o r s)))
 
--- ---- the reader; its tests in order: empty, resolution, orientation, cut short
--- THE READING: spare bits and later bytes are not looked at
-unfoldable pub readOf : List ℕ → Told Reading
-readOf bytes =
+-- ---- the reader; its tests in order: empty, resolution, orientation, cut short, spare bits
+-- what the code at the front says: spare bits and later bytes are not looked at
+unfoldable pub looseOf : List ℕ → Told Reading
+looseOf bytes =
     let bits = allBits bytes in
     let o = valueOf (take 3 bits) in
     let r = valueOf (take 5 (drop 3 bits)) in
@@ -61,3 +61,17 @@ readOf bytes =
     (inDomain o r
     (refuse (ltb (length bytes) (codeLength r)) Is.Code
     (told (record { orientation = o; resolution = r; s = valueOf (take (2 * r) (drop 8 bits)); used = codeLength r }))))
+
+-- the number that the spare bits write, behind the 8 + 2 r bits of a code: 0 where all of them are zero
+unfoldable pub spareOf : ℕ → List ℕ → ℕ
+spareOf r bytes = valueOf (take (8 * codeLength r - (8 + 2 * r)) (drop (8 + 2 * r) (allBits bytes)))
+
+-- THE READING: no spare bit is set, and later bytes are not looked at
+unfoldable pub readOf : List ℕ → Told Reading
+readOf bytes = do
+  x ← looseOf bytes
+  refuse (ltb 0 (spareOf (x .resolution) bytes)) Is.Spare (told x)
+
+-- a byte is below 256
+abbrev pub Bytes : List ℕ → Type 0
+Bytes bytes = (k : ℕ) → getD bytes k 0 < 256

@@ -14,7 +14,8 @@
 // Properties:
 //
 // - A code takes 1 + ceil(r / 4) bytes, 1 to 9, and its first byte tells how many.
-// - Spare bits are written as zero, and a reader does not look at them.
+// - Spare bits are written as zero, and a code in which one is set is refused: so a code has one
+//   spelling (proofs/Canonical.antt).
 // - No byte past a code is written or looked at, so codes can stand one after another.
 // - What is written is read back (proofs/RoundTrip.antt).
 ghost use mathlib.Core.Path.{_≡_};
@@ -22,7 +23,7 @@ ghost use mathlib.Core.List.{_++_};
 ghost use Prim.Native.Nat.{_+_, _-_, _*_, _/_, _^_, _<_, _≤_};
 ghost use lib.ListN.{length, getD, drop};
 ghost use Rattle.triple.specs.Lent.{countOf, afterCall};
-ghost use Rattle.code.specs.Codes.{valueOf, allBits, codeLength, codeBytes, codeOf, readOf};
+ghost use Rattle.code.specs.Codes.{valueOf, allBits, codeLength, codeBytes, codeOf, spareOf, looseOf, readOf};
 ghost use Rattle.code.specs.Answers.{saidWrite, saidRead};
 use triple::domain::DomainAnswer;
 use triple::domain::domain_of;
@@ -68,10 +69,26 @@ pub fn write(orientation: u8, resolution: u8, s: u64, out: &mut [u8]) -> WriteAn
     WriteAnswer::Written(used)
 }
 
-// Reads the code at the front of some bytes. How long it is depends on the first byte, so that byte's
-// own tests come before the one of the length.
+// Reads the code at the front of some bytes.
 pub fn read(bytes: &[u8]) -> ReadAnswer
     ensures { λ a. ⌜ saidRead a ≡ readOf (now (bytes .entry)) ⌝ }
+{
+    let loose = read_loose(bytes);
+    match loose {
+        ReadAnswer::Read(x) => {
+            if spare_value(bytes, x.resolution) > 0 {
+                return ReadAnswer::Refused(Refusal::Spare);
+            }
+            ReadAnswer::Read(x)
+        }
+        ReadAnswer::Refused(e) => ReadAnswer::Refused(e),
+    }
+}
+
+// The same, whatever the spare bits are. How long a code is depends on its first byte, so that byte's
+// own tests come before the one of the length.
+fn read_loose(bytes: &[u8]) -> ReadAnswer
+    ensures { λ a. ⌜ saidRead a ≡ looseOf (now (bytes .entry)) ⌝ }
 {
     if bytes.len() == 0 {
         return ReadAnswer::Refused(Refusal::Code);
@@ -113,6 +130,15 @@ fn spare_bits(resolution: u8) -> usize
     ensures { λ n. ⌜ n ≡ 8 * ((resolution + 3) / 4) - 2 * resolution ⌝ }
 {
     8 * position_bytes(resolution) - 2 * (resolution as usize)
+}
+
+// The spare bits of the code at the front, as a number: they are the last ones of its last byte.
+fn spare_value(bytes: &[u8], resolution: u8) -> u8
+    requires { ⌜ (resolution ≤ 30) × (codeLength resolution ≤ length (now bytes)) ⌝ }
+    ensures { λ n. ⌜ n ≡ spareOf resolution (now (bytes .entry)) ⌝ }
+{
+    let last = bytes[position_bytes(resolution)];
+    last % (1u8 << spare_bits(resolution))
 }
 
 fn put(orientation: u8, resolution: u8, s: u64, out: &mut [u8])

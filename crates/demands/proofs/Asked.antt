@@ -9,6 +9,7 @@ use Rattle.demands.proofs.Steps.{child-steps}
 use Rattle.demands.proofs.Rounded.{points}
 use Rattle.demands.proofs.Drawn.{grammar}
 use Rattle.demands.proofs.ReadBack.{code}
+use Rattle.demands.proofs.Spelled.{code-spelling}
 use Rattle.demands.proofs.TwelveCases.{dozen}
 
 pub demands : Demands
@@ -22,5 +23,6 @@ demands = record {
   grammars = grammar;
   a5 = a5-states;
   codes = code;
+  code-spelling = code-spelling;
   dozen = dozen;
 }

@@ -22,6 +22,8 @@ pub mod Drawn
 -- ---- codes
 -- a code that was written reads back
 pub mod ReadBack
+-- and has one spelling
+pub mod Spelled
 -- ---- the dozen, and the whole
 -- the twelve worked examples
 pub mod TwelveCases

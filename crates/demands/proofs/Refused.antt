@@ -37,7 +37,7 @@ use Rattle.nodes.specs.declared.Node.{Node}
 use Rattle.nodes.specs.Nodes.{goodNode, childCell, bounded, stepTo, childStepOf, nodeOf}
 use Rattle.nodes.specs.NodeAnswers.{axiomNodeOf}
 use Rattle.curve.specs.Points.{near, pointOf}
-use Rattle.code.specs.Codes.{allBits, valueOf, codeLength, codeOf, readOf}
+use Rattle.code.specs.Codes.{allBits, valueOf, codeLength, codeOf, spareOf, looseOf, readOf}
 use Rattle.query.specs.declared.Query.{Query}
 use Rattle.text.specs.Decimals.{u8, u64, i32}
 use Rattle.text.specs.Patterns.{f64}
@@ -172,15 +172,17 @@ writing o r s buffer =
     by-test (ltb 5 o) Is.Orientation tt λ h.
     by-test (leb (4 ^ r) s) Is.Position tt λ l. answer)
 
-reading : (bytes : List ℕ) → AnsweredOr (11 ∷ 1 ∷ 2 ∷ []) (readOf bytes)
-unfolding readOf numberOf
+reading : (bytes : List ℕ) → AnsweredOr (11 ∷ 1 ∷ 2 ∷ 24 ∷ []) (readOf bytes)
+unfolding readOf looseOf numberOf
 reading bytes =
     let o = valueOf (take 3 (allBits bytes)) in
     let r = valueOf (take 5 (drop 3 (allBits bytes))) in
-    by-test (eqb (length bytes) 0) Is.Code tt λ some.
+    by-step
+    (by-test (eqb (length bytes) 0) Is.Code tt λ some.
     by-test (ltb 30 r) Is.Resolution tt λ k.
     by-test (ltb 5 o) Is.Orientation tt λ h.
-    by-test (ltb (length bytes) (codeLength r)) Is.Code tt λ whole. answer
+    by-test (ltb (length bytes) (codeLength r)) Is.Code tt λ whole. answer)
+    λ x. by-test (ltb 0 (spareOf (x .resolution) bytes)) Is.Spare tt λ clear. answer
 
 -- ---- lines and queries
 by-number : {A : Type 0} (read : Option A) → AnsweredOr (21 ∷ []) (number read)

@@ -34,7 +34,8 @@ use Rattle.nodes.specs.NodeAnswers.{axiomNodeOf}
 use Rattle.nodes.specs.NodeWalks.{walkedNode, lastStep}
 use Rattle.curve.specs.declared.PointCell.{PointCell}
 use Rattle.curve.specs.Points.{floor, parity, clamped, settled, ownTriple, pointOf}
-use Rattle.code.specs.Codes.{codeOf, readOf}
+use Rattle.code.specs.declared.Reading.{Reading}
+use Rattle.code.specs.Codes.{codeOf, readOf, Bytes}
 use Rattle.query.specs.declared.Query.{Query}
 use Rattle.query.specs.Queries.{answerOf}
 use Rattle.query.specs.Lines.{queryOf}
@@ -90,7 +91,7 @@ pub record Refusals : Type 0 where
   -- a code written
   pub writing : (o r s : ℕ) (buffer : List ℕ) → AnsweredOr (1 ∷ 2 ∷ 3 ∷ 10 ∷ []) (countOf (codeOf o r s) buffer)
   -- a code read: 11 where it is empty, and after 2 where it is cut short
-  pub reading : (bytes : List ℕ) → AnsweredOr (11 ∷ 1 ∷ 2 ∷ []) (readOf bytes)
+  pub reading : (bytes : List ℕ) → AnsweredOr (11 ∷ 1 ∷ 2 ∷ 24 ∷ []) (readOf bytes)
   -- the query of a line
   pub line : (line : List ℕ) → AnsweredOr (21 ∷ []) (queryOf line)
   -- the answer to a query: the numbers of all three kinds
@@ -190,6 +191,16 @@ pub record Code (o r s : ℕ) (buffer : List ℕ) (n : ℕ) : Type 0 where
   -- it reads back, whatever follows it
   pub back : readOf (afterCall (codeOf o r s) buffer) ≡ told (record { orientation = o; resolution = r; s = s; used = n })
 
+-- a whole code: bytes that are read, and used to the last of them
+pub record WholeCode (bytes : List ℕ) (x : Reading) : Type 0 where
+  pub small : Bytes bytes
+  pub reads : readOf bytes ≡ told x
+  pub used : x .used ≡ length bytes
+
+pub record CodeSpelling : Type 0 where
+  -- two whole codes have one orientation, one resolution and one position exactly when their bytes are the same
+  pub one : (a b : List ℕ) (x y : Reading) → WholeCode a x → WholeCode b y → ((x .orientation ≡ y .orientation) × (x .resolution ≡ y .resolution) × (x .s ≡ y .s)) ↔ (a ≡ b)
+
 -- ---- ALL THAT WAS ASKED
 pub record Demands : Type 1 where
   -- every call on every input ends with an answer or a numbered refusal
@@ -210,5 +221,7 @@ pub record Demands : Type 1 where
   pub a5 : (table : List ℤ) → 41 * 28 ≤ length table → compiledTo a5Text table ≡ states 28
   -- for everything that the writer answers, whatever its buffer held
   pub codes : (o r s : ℕ) (buffer : List ℕ) (n : ℕ) → countOf (codeOf o r s) buffer ≡ told n → Code o r s buffer n
+  -- for every two lists of bytes
+  pub code-spelling : CodeSpelling
   -- the twelve worked examples
   pub dozen : Dozen

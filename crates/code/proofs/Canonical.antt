@@ -1,0 +1,119 @@
+-- A code has one spelling: what is read is the code that a writer writes of it, so two byte lists that are codes from their first byte to their last say the same exactly when they are the same.
+use mathlib.Core.Path.{_≡_, refl, sym, ap, ap₂, _∙_}
+use mathlib.Core.List.{List, [], _∷_}
+use mathlib.Core.Logic.{_↔_}
+use Prim.Native.Nat.{ℕ, zero, suc, _+_, _*_, _/_, _%_, _^_, _≤_, _<_}
+use native.Mathlib.Nat.{mod-eq-of-lt, add-zero}
+use native.Mathlib.Numerals.{one-add}
+use native.Mathlib.Omega.{arith}
+use lib.Dec.{ltb, lit<}
+use lib.ListN.{length, take, getD}
+use lib.Pow.{split}
+use lib.Seq.{length-take-le, take-length}
+use borrow.Author.Tests.{ltb-false}
+use Rattle.triple.specs.declared.refusal.Refusal.the-variants as Is
+use Rattle.triple.specs.Refusals.{Told, told, refused, _>>=_}
+use Rattle.triple.specs.Domain.{greatestResolution, greatestOrientation}
+use Rattle.triple.proofs.RefusalLaws.{never, passed}
+use Rattle.code.specs.declared.Reading.{Reading}
+use Rattle.code.specs.Codes.{bitsOf, valueOf, bytesOf, allBits, codeLength, codeBytes, spareOf, looseOf, readOf, Bytes}
+use Rattle.code.proofs.BitLaws.{bits-low, value-whole}
+use Rattle.code.proofs.ByteLaws.{number, all-bits, bytes-front}
+use Rattle.code.proofs.CodeLaws.{positionBytes, spareBits, code-bytes}
+use Rattle.code.proofs.ReadLaws.{fromFirst, read-empty, read-first, position-read}
+use Rattle.code.proofs.SpareLaws.{spare-joined}
+
+-- ---- bytes, out of their bits
+small-take : (n : ℕ) (bytes : List ℕ) → Bytes bytes → Bytes (take n bytes)
+small-take zero bytes small k = lit< tt
+small-take (suc n) [] small k = lit< tt
+small-take (suc n) (b ∷ bytes) small zero = small 0
+small-take (suc n) (b ∷ bytes) small (suc k) = small-take n bytes (λ j. small (suc j)) k
+
+bytes-back : (bytes : List ℕ) → Bytes bytes → bytesOf (length bytes) (allBits bytes) ≡ bytes
+unfolding bytesOf allBits
+bytes-back [] small = refl
+bytes-back (b ∷ bytes) small =
+    bytes-front (length bytes) b (allBits bytes)
+    ∙ ap₂ (λ (x : ℕ) (l : List ℕ). x ∷ l) (mod-eq-of-lt (small 0)) (bytes-back bytes (λ k. small (suc k)))
+
+bits-back : (bytes : List ℕ) → bitsOf (8 * length bytes) (valueOf (allBits bytes)) ≡ allBits bytes
+bits-back bytes =
+    let n = 8 * length bytes in
+    ap (bitsOf n) (ap valueOf (all-bits bytes) ∙ value-whole n (number bytes)) ∙ bits-low n (number bytes) ∙ sym (all-bits bytes)
+
+first-back : (b : ℕ) → b < 256 → (b / 32 * 32 + b % 32 % 32) % 256 ≡ b
+first-back b h =
+    let e : b % 32 % 32 ≡ b % 32 = omega arith in
+    let f : b / 32 * 32 + b % 32 ≡ b = omega arith in
+    rw (e, f) (mod-eq-of-lt h)
+
+-- ---- a code that no spare bit is set in
+module _ (b : ℕ) (rest : List ℕ) (small : Bytes (b ∷ rest)) (long : positionBytes (b % 32) ≤ length rest) where
+  abbrev r : ℕ
+  r = b % 32
+
+  abbrev s : ℕ
+  s = valueOf (take (2 * r) (allBits rest))
+
+  abbrev front : List ℕ
+  front = take (positionBytes r) rest
+
+  spelled : spareOf r (b ∷ rest) ≡ 0 → codeBytes (b / 32) r s ≡ b ∷ front
+  spelled clear =
+      let k = spareBits r in
+      let n = positionBytes r in
+      let v = valueOf (allBits front) in
+      let sized : length front ≡ n = length-take-le n rest long in
+      let moved : s * 2 ^ k ≡ v =
+      ap (λ (x : ℕ). x * 2 ^ k) (sym (position-read r rest long))
+      ∙ sym (add-zero _) ∙ ap (λ (x : ℕ). v / 2 ^ k * 2 ^ k + x) (sym (spare-joined r b rest long ∙ clear)) ∙ split v k in
+      let back : bytesOf n (bitsOf (8 * n) v) ≡ front =
+      ap (λ (j : ℕ). bytesOf j (bitsOf (8 * j) v)) (sym sized) ∙ ap (bytesOf (length front)) (bits-back front) ∙ bytes-back front (small-take n rest (λ k. small (suc k))) in
+      code-bytes (b / 32) r s ∙ ap₂ (λ (x : ℕ) (l : List ℕ). x ∷ l) (first-back b (small 0)) (ap (λ (x : ℕ). bytesOf n (bitsOf (8 * n) x)) moved ∙ back)
+
+-- ---- what is read is the code that its values are written as
+Spelled : List ℕ → Reading → Type 0
+Spelled bytes x = spareOf (x .resolution) bytes ≡ 0 → codeBytes (x .orientation) (x .resolution) (x .s) ≡ take (x .used) bytes
+
+first-spelled : (b : ℕ) (rest : List ℕ) → Bytes (b ∷ rest) → {x : Reading} → fromFirst b (b ∷ rest) ≡ told x → Spelled (b ∷ rest) x
+unfolding fromFirst codeLength Spelled
+first-spelled b rest small {x} p =
+    let shallow = passed (ltb greatestResolution (b % 32)) Is.Resolution p in
+    let oriented = passed (ltb greatestOrientation (b / 32)) Is.Orientation (shallow .1) in
+    let whole = passed (ltb (suc (length rest)) (codeLength (b % 32))) Is.Code (oriented .1) in
+    let is : record { orientation = b / 32; resolution = b % 32; s = valueOf (take (2 * (b % 32)) (allBits rest)); used = codeLength (b % 32) } ≡ x = cc (whole .1) in
+    let l : codeLength (b % 32) ≤ suc (length rest) = ltb-false (suc (length rest)) (codeLength (b % 32)) (whole .0) in
+    let long : positionBytes (b % 32) ≤ length rest = omega arith in
+    rw (← is) (λ clear. rw (one-add (positionBytes (b % 32))) (spelled b rest small long clear))
+
+loose-spelled : (bytes : List ℕ) → Bytes bytes → {x : Reading} → looseOf bytes ≡ told x → Spelled bytes x
+loose-spelled [] small p = never (read-empty [] refl ∙ p)
+loose-spelled (b ∷ rest) small p = first-spelled b rest small (read-first (b ∷ rest) (λ z. omega (arith, z)) (small 0) ∙ p)
+
+-- what is read is read loosely too, and no spare bit is set
+stepped : {A B : Type 0} {f : A → Told B} (t : Told A) {b : B} → (t >>= f) ≡ told b → (a : A) × (t ≡ told a) × (f a ≡ told b)
+stepped (told a) p = (a, refl, p)
+stepped (refused n) p = never p
+
+pub read-loosely : (bytes : List ℕ) {x : Reading} → readOf bytes ≡ told x → (looseOf bytes ≡ told x) × (spareOf (x .resolution) bytes ≡ 0)
+unfolding readOf
+read-loosely bytes {x} p =
+    let l = stepped (looseOf bytes) p in
+    let clear = passed (ltb 0 (spareOf (l .0 .resolution) bytes)) Is.Spare (l .2) in
+    let same : l .0 ≡ x = cc (clear .1) in
+    rw (← same) (l .1, omega (arith, ltb-false 0 (spareOf (l .0 .resolution) bytes) (clear .0)))
+
+pub read-spelling : (bytes : List ℕ) → Bytes bytes → {x : Reading} → readOf bytes ≡ told x → codeBytes (x .orientation) (x .resolution) (x .s) ≡ take (x .used) bytes
+unfolding Spelled
+read-spelling bytes small p = let l = read-loosely bytes p in loose-spelled bytes small (l .0) (l .1)
+
+-- ---- two byte lists that are read, and used to their last byte
+pub codes-canonical : (a b : List ℕ) {x y : Reading} → Bytes a → Bytes b → readOf a ≡ told x → readOf b ≡ told y → x .used ≡ length a → y .used ≡ length b
+    → ((x .orientation ≡ y .orientation) × (x .resolution ≡ y .resolution) × (x .s ≡ y .s)) ↔ (a ≡ b)
+codes-canonical a b {x} {y} sa sb p q ea eb =
+    let m : codeBytes (x .orientation) (x .resolution) (x .s) ≡ a = read-spelling a sa p ∙ ap (λ (n : ℕ). take n a) ea ∙ take-length a in
+    let n : codeBytes (y .orientation) (y .resolution) (y .s) ≡ b = read-spelling b sb q ∙ ap (λ (n : ℕ). take n b) eb ∙ take-length b in (
+      (λ e. sym m ∙ rw (e .0, e .1, e .2) n),
+      (λ e. let same : x ≡ y = cc (p, q, e) in (ap (λ (z : Reading). z .orientation) same, ap (λ (z : Reading). z .resolution) same, ap (λ (z : Reading). z .s) same)),
+    )
