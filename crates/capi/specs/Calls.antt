@@ -12,12 +12,11 @@ use Rattle.triple.specs.Refusals.{Told, told, refused, numberOf, refuse, _>>=_}
 use Rattle.triple.specs.Domain.{inDomain}
 use Rattle.turtle.specs.declared.AB.{AB}
 use Rattle.turtle.specs.Corners.{cornerSumOf, tripleOf}
-use Rattle.lsystem.specs.declared.cell.Cell.{Cell}
 use Rattle.lsystem.specs.declared.Position.{Position}
 use Rattle.nodes.specs.declared.Node.{Node}
 use Rattle.nodes.specs.declared.ChildStep.{ChildStep}
 use Rattle.nodes.specs.declared.Reached.{Reached}
-use Rattle.lsystem.specs.Cells.{cellOf, positionOf}
+use Rattle.lsystem.specs.Cells.{cellOf, cellValues, positionOf}
 use Rattle.nodes.specs.Nodes.{childStepOf, nodeOf}
 use Rattle.tables.specs.Descent.{Leaf, descentOf}
 use Rattle.curve.specs.declared.PointCell.{PointCell}
@@ -35,10 +34,6 @@ use Rattle.triple.specs.Lent.{valued, statusOf, afterCall, firstOf, secondOf, c
 -- x y z
 abbrev pub tripleValues : Triple → List ℤ
 tripleValues t = t .x ∷ t .y ∷ t .z ∷ []
-
--- x y z flavor
-abbrev pub cellValues : Cell → List ℤ
-cellValues c = c .triple .x ∷ c .triple .y ∷ c .triple .z ∷ pos (c .flavor) ∷ []
 
 -- x y z moved
 abbrev pub pointValues : PointCell → List ℤ

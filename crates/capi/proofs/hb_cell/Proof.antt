@@ -2,7 +2,7 @@
 use mathlib.Core.Path.{ap}
 use borrow.Author.Needs.{needs}
 use Rattle.lsystem.specs.Answers.{saidCell}
-use Rattle.capi.specs.Calls.{cellValues}
+use Rattle.lsystem.specs.Cells.{cellValues}
 use Rattle.triple.proofs.LentLaws.{call-told, call-refused}
 use Rattle.capi.proofs.hb_cell.Statement.{statement}
 use Rattle.capi.proofs.hb_cell.Tie as tie

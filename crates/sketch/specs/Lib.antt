@@ -1,0 +1,3 @@
+pub mod Drawings
+pub mod Answers
+pub mod Inside
