@@ -4,10 +4,10 @@ use mathlib.Core.Path.{_≡_, refl, sym, ap, _∙_}
 use mathlib.Core.Bool.{Bool, true, false, _&&_, cond}
 use mathlib.Core.List.{List, [], _∷_, _++_, append-nil}
 use mathlib.Core.Option.{Option, none, some}
-use Prim.Native.Nat.{ℕ, zero, suc, _+_, _-_, _≤_}
+use Prim.Native.Nat.{ℕ, zero, suc, _+_, _-_, _≤_, _<_}
 use native.Mathlib.Numerals.{add-one}
 use native.Mathlib.Omega.{arith}
-use borrow.Author.Tests.{ne-eqb}
+use borrow.Author.Tests.{le-leb, lt-leb, ne-eqb}
 use lib.Dec.{T, eqb, ltb, ltb→lt, leb, leb→le}
 use lib.ListN.{length}
 use Rattle.whole.proofs.Bools.{both-left, both-right, from-true}
@@ -21,6 +21,7 @@ use Rattle.grammar.specs.Words.{isLower, upper, mirrored, reversed, reversedOrS
 use Rattle.grammar.specs.Texts.{Line, rowsOf, lineOf, linesOf}
 use Rattle.grammar.specs.Curves.{bookBy, rules, draws, passes, strokes}
 use Rattle.grammar.proofs.ReversalLaws.{pass-append, upper-other}
+use Rattle.grammar.proofs.WordByteLaws.{upper-before, upper-lower, upper-after, mirrored-lower}
 use Rattle.grammar.proofs.StrokeLaws.{Every, strokes-small}
 use Rattle.a5.specs.A5.{a5Text, a5}
 use Rattle.sketch.specs.declared.word.Word.{Word}
@@ -69,18 +70,27 @@ module _ {m : ℕ} {w : Word} where
   unfolding drawWord
   draw-rest o h = (h .0, h .1 ∙ ap orEmpty (sym (none-at 0 m o)))
 
--- a byte's motif
-pub motif-lower : (b : ℕ) {t : Bool} → t ≡ isLower b → t ≡ true → {m : ℕ} → m ≡ mirrored b → m ≡ upper b
-unfolding mirrored upper
-motif-lower b e f g =
-    let low : isLower b ≡ true = sym e ∙ f in
-    let h : 97 ≤ b = leb→le 97 b (both-left (leb 97 b) (leb b 122) (from-true low)) in
-    g ∙ simp (ne-eqb b 43 (λ e. omega arith), ne-eqb b 45 (λ e. omega arith), low)
+-- ---- a byte by the range that it is in
+module _ {b : ℕ} where
+  pub lower-before : b < 97 → false ≡ isLower b
+  lower-before h = simp (lt-leb 97 b h)
 
-pub motif-other : (b : ℕ) {t : Bool} → t ≡ isLower b → t ≡ false → b ≡ upper b
-motif-other b e f = sym (upper-other b (sym e ∙ f))
+  pub lower-inside : 97 ≤ b → b < 123 → true ≡ isLower b
+  lower-inside l h = let most : b ≤ 122 = omega arith in simp (le-leb 97 b l, le-leb b 122 most)
 
-pub ruleset motifs = (motif-lower, motif-other)
+  pub lower-after : 123 ≤ b → false ≡ isLower b
+  lower-after h =
+      let least : 97 ≤ b = omega arith in
+      let more : 122 < b = omega arith in
+      simp (le-leb 97 b least, lt-leb b 122 more)
+
+  -- the mirror of a lowercase letter is its uppercase one
+  pub motif-lower : 97 ≤ b → b < 123 → {m : ℕ} → m ≡ mirrored b → m ≡ upper b
+  motif-lower l h e = e ∙ sym (mirrored-lower l h) ∙ upper-lower l h
+
+pub ruleset lowers = (lower-before, lower-inside, lower-after)
+
+pub ruleset motifs = (motif-lower, upper-before, upper-after)
 
 -- with so many passes left
 module _ {left m n : ℕ} {v : List ℕ} (same : m ≡ n) where

@@ -69,10 +69,10 @@ pub(crate) fn is_lower(b: u8) -> bool
 fn motif_of(b: u8) -> u8
     ensures { λ m. ⌜ m ≡ upper b ⌝ }
 {
-    if is_lower(b) {
-        return mirrored(b);
+    match b {
+        b'a'..=b'z' => mirrored(b),
+        _ => b,
     }
-    b
 }
 
 // The word that stands for a letter with so many passes left, the draw pass the last of them: its

@@ -9,6 +9,6 @@ motif-of-spec =
     tie.close
     (tie.spec
     (λ c κs. search needs)
-    (λ c κs. search needs)
+    (λ c. search (needs, motifs))
     (λ c. search (needs, motifs))
     (λ c. search (needs, motifs)))
