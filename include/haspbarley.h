@@ -15,7 +15,8 @@
  * functions compute in whole numbers, and what is double there is exact in every mode. A call may raise
  * floating-point flags, and none may be set to trap.
  *
- * A call takes at most 16 KB of stack for hb_compile, 2 KB for hb_line, and 512 bytes for any other.
+ * A call takes at most 16 KB of stack for hb_compile, 4 KB for hb_draw, 2 KB for hb_line, and 512 bytes
+ * for any other.
  *
  * orientation  0 to 5: UV, VU, UW, WU, VW, WV
  * resolution   0 to 30
@@ -41,6 +42,7 @@
 #define HB_ANSWER_BYTES 107    /* room for the answer to any line */
 #define HB_STATE_NUMBERS 41    /* a table's numbers for each state */
 #define HB_TABLE_NUMBERS 1312  /* room for the table of any text: 32 states */
+#define HB_DRAWING_NUMBERS 16384 /* room for any drawing: 4096 cells */
 
 #ifdef __cplusplus
 extern "C" {
@@ -73,9 +75,9 @@ enum {
 
     HB_LINE = 21,       /* a line that is no query; only in the answer of hb_line */
     HB_TABLE = 22,      /* a state count, a token or an entry of a table that is not good */
+    HB_PASSES = 23,     /* resolution 0 or above 6 in a drawing */
 
     /* of operations to come: no function of this version returns them */
-    HB_PASSES = 23,     /* passes to draw 0 or above 6 */
     HB_SPARE = 24,      /* a code whose spare bits are not zero */
     HB_ORDER = 25,      /* positions or cells out of order */
     HB_PART = 26,       /* a part of a table that starts or ends past it */
@@ -92,6 +94,12 @@ uint8_t hb_cell(uint8_t orientation, uint8_t resolution, uint64_t s, int32_t *ou
  * Values: s flavor (2). Refusals: 1, 2, 4, 5, 10. */
 uint8_t hb_position(uint8_t orientation, uint8_t resolution, int32_t x, int32_t y, int32_t z, uint64_t *out,
                     size_t out_len);
+
+/* Draws the curve from A5's rules alone, with 1 to 6 passes, and reads no table: the cells that the
+ * positions 0, 1, 2, .. name, in that order.
+ * Values: x y z flavor of each of the 4^resolution cells (4 * 4^resolution, at most HB_DRAWING_NUMBERS).
+ * Refusals: 23, 2, 10. */
+uint8_t hb_draw(uint8_t orientation, uint8_t resolution, int32_t *out, size_t out_len);
 
 /* The node below a cell, from which child steps go on.
  * Values: motif flip (2) to numbers, and the node's two positions (2) to places; both or, on a refusal,

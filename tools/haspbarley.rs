@@ -2,6 +2,7 @@
 extern "C" {
     fn hb_cell(o: u8, r: u8, s: u64, out: *mut i32, len: usize) -> u8;
     fn hb_position(o: u8, r: u8, x: i32, y: i32, z: i32, out: *mut u64, len: usize) -> u8;
+    fn hb_draw(o: u8, r: u8, out: *mut i32, len: usize) -> u8;
     fn hb_point(i: f64, j: f64, r: u8, out: *mut i32, len: usize) -> u8;
     fn hb_corner_sum(x: i32, y: i32, z: i32, out: *mut i64, len: usize) -> u8;
     fn hb_triple(a: i64, b: i64, out: *mut i32, len: usize) -> u8;
@@ -20,6 +21,12 @@ fn told<T>(status: u8, values: T) -> Result<T, u8> {
 pub fn cell(o: u8, r: u8, s: u64) -> Result<[i32; 4], u8> {
     let mut out = [0; 4];
     told(unsafe { hb_cell(o, r, s, out.as_mut_ptr(), 4) }, out)
+}
+
+// x y z flavor of each cell, in order
+pub fn draw(o: u8, r: u8) -> Result<Vec<i32>, u8> {
+    let mut out = vec![0; 4 << (2 * r.min(6))];
+    told(unsafe { hb_draw(o, r, out.as_mut_ptr(), out.len()) }, out)
 }
 
 // s flavor

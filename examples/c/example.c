@@ -35,6 +35,30 @@ static void position(uint8_t orientation, uint8_t resolution, int32_t x, int32_t
         printf(" %" PRIu64 " %" PRIu64 "\n", out[0], out[1]);
 }
 
+/* The curve drawn from its rules, an entry behind its last cell, and whether each cell is that of its
+ * position. */
+static void draw(uint8_t orientation, uint8_t resolution)
+{
+    static int32_t out[HB_DRAWING_NUMBERS + 1];
+    size_t cells = (size_t)1 << 2 * resolution;
+    int same = 1;
+    printf("draw %d %d:", orientation, resolution);
+    out[4 * cells] = 7;
+    uint8_t status = hb_draw(orientation, resolution, out, 4 * cells + 1);
+    if (status != HB_OK) {
+        printf(" ! %d\n", status);
+        return;
+    }
+    for (size_t s = 0; s < cells; s++) {
+        int32_t named[4] = {0};
+        hb_cell(orientation, resolution, s, named, 4);
+        same = same && memcmp(named, out + 4 * s, sizeof named) == 0;
+    }
+    for (size_t k = 0; k < 8; k++)
+        printf(" %" PRId32, out[k]);
+    printf(" .., behind %" PRId32 ", its positions' cells: %s\n", out[4 * cells], same ? "yes" : "no");
+}
+
 /* Down the curve of UV by digits, from the node of its axiom; then the node of the cell that is
  * reached, which is the same. */
 static void walk(const uint8_t *digits, uint8_t count)
@@ -168,6 +192,10 @@ static void refused(void)
     uint8_t status = hb_cell(0, 1, 2, out, 3);
     printf("cell 0 1 2 into three places: ! %d, left %d %d %d %d\n", status, out[0], out[1], out[2], out[3]);
 
+    int32_t drawing[16] = {7};
+    status = hb_draw(0, 1, drawing, 15);
+    printf("draw 0 1 into fifteen places: ! %d, left %d\n", status, drawing[0]);
+
     uint8_t bytes[2] = {7, 7};
     uint64_t count[1] = {7};
     status = hb_code_write(0, 2, 6, bytes, 2, NULL, 0);
@@ -195,6 +223,10 @@ int main(void)
     cell(0, 30, UINT64_C(1) << 60);
     cell(0, 31, 0);
     cell(6, 1, 0);
+    draw(0, 1);
+    draw(4, 6);
+    draw(6, 0);
+    draw(6, 1);
     position(0, 2, -1, 2, 0);
     position(1, 2, 0, 3, -3);
     position(0, 1, 0, 2, -2);

@@ -14,7 +14,7 @@ static const uint64_t LAST = (UINT64_C(1) << 60) - 1;
 static const char A5[] = "A PQAB E\nB B+++PQ---A +e-\nC P---RMb+++ -e+\nM qQ+++C---b T\n"
                          "P PpB---B+++ S\nQ PQ---Cb+++ D\nR b+++a---qQ +++D---\n";
 
-static int32_t numbers[6], table[HB_TABLE_NUMBERS];
+static int32_t numbers[6], table[HB_TABLE_NUMBERS], drawing[HB_DRAWING_NUMBERS];
 static int64_t sums[3];
 static uint64_t out[4];
 static double places[2];
@@ -22,6 +22,7 @@ static uint8_t bytes[HB_CODE_BYTES], text[HB_ANSWER_BYTES];
 
 static void cell(void) { hb_cell(5, 30, LAST, numbers, 6); }
 static void position(void) { hb_position(5, 30, 0, 1073741823, -1073741823, out, 4); }
+static void draw(void) { hb_draw(4, 6, drawing, HB_DRAWING_NUMBERS); }
 static void node(void) { hb_node(5, 30, 0, 1073741823, -1073741823, numbers, 6, places, 2); }
 static void child(void) { hb_child(0, 0, 0.0, 0.0, 2, 1, 5, numbers, 6, places, 2); }
 static void point(void) { hb_point(-0.25, 1e9, 30, numbers, 6); }
@@ -45,6 +46,7 @@ static const struct {
 } CALLS[] = {
     {"hb_compile", compile, 16384},
     {"hb_line", line, 2048},
+    {"hb_draw", draw, 4096},
     {"hb_cell", cell, 512},
     {"hb_position", position, 512},
     {"hb_node", node, 512},

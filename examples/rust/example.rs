@@ -5,6 +5,7 @@ mod ffi {
     extern "C" {
         pub fn hb_cell(orientation: u8, resolution: u8, s: u64, out: *mut i32, out_len: usize) -> u8;
         pub fn hb_position(orientation: u8, resolution: u8, x: i32, y: i32, z: i32, out: *mut u64, out_len: usize) -> u8;
+        pub fn hb_draw(orientation: u8, resolution: u8, out: *mut i32, out_len: usize) -> u8;
         pub fn hb_node(
             orientation: u8,
             resolution: u8,
@@ -83,6 +84,10 @@ mod haspbarley {
         unsafe { ffi::hb_position(orientation, resolution, x, y, z, out.as_mut_ptr(), out.len()) }
     }
 
+    pub fn draw(orientation: u8, resolution: u8, out: &mut [i32]) -> u8 {
+        unsafe { ffi::hb_draw(orientation, resolution, out.as_mut_ptr(), out.len()) }
+    }
+
     pub fn node(orientation: u8, resolution: u8, [x, y, z]: [i32; 3], numbers: &mut [i32], places: &mut [f64]) -> u8 {
         let (n, p) = (numbers.len(), places.len());
         unsafe { ffi::hb_node(orientation, resolution, x, y, z, numbers.as_mut_ptr(), n, places.as_mut_ptr(), p) }
@@ -156,6 +161,23 @@ fn position(orientation: u8, resolution: u8, [x, y, z]: [i32; 3]) {
     let mut out = [0; 2];
     let status = haspbarley::position(orientation, resolution, [x, y, z], &mut out);
     println!("position {orientation} {resolution} {x} {y} {z}: {}", gives(status, &out));
+}
+
+/// The curve drawn from its rules, an entry behind its last cell, and whether each cell is that of its
+/// position.
+fn draw(orientation: u8, resolution: u8) {
+    let cells = 1 << (2 * resolution);
+    let mut out = vec![7; 4 * cells + 1];
+    let status = haspbarley::draw(orientation, resolution, &mut out);
+    print!("draw {orientation} {resolution}: {}", gives(status, &out[..8.min(4 * cells)]));
+    if status == 0 {
+        let same = out.chunks_exact(4).zip(0..).all(|(drawn, s)| {
+            let mut named = [0; 4];
+            haspbarley::cell(orientation, resolution, s, &mut named) == 0 && drawn == named
+        });
+        print!(" .., behind {}, its positions' cells: {}", out[4 * cells], if same { "yes" } else { "no" });
+    }
+    println!();
 }
 
 /// Down the curve of UV by digits, from the node of its axiom; then the node of the cell that is
@@ -259,6 +281,10 @@ fn refused() {
     let status = haspbarley::cell(0, 1, 2, &mut out[..3]);
     println!("cell 0 1 2 into three places: ! {status}, left {}", gives(0, &out));
 
+    let mut drawing = [7; 16];
+    let status = haspbarley::draw(0, 1, &mut drawing[..15]);
+    println!("draw 0 1 into fifteen places: ! {status}, left {}", drawing[0]);
+
     let (mut bytes, mut count) = ([7; 2], [7]);
     let status = haspbarley::code_write(0, 2, 6, &mut bytes, &mut []);
     println!("code 0 2 6 with no place for the count: ! {status}, left {}", gives(0, &bytes));
@@ -283,6 +309,10 @@ fn main() {
     cell(0, 30, 1 << 60);
     cell(0, 31, 0);
     cell(6, 1, 0);
+    draw(0, 1);
+    draw(4, 6);
+    draw(6, 0);
+    draw(6, 1);
     position(0, 2, [-1, 2, 0]);
     position(1, 2, [0, 3, -3]);
     position(0, 1, [0, 2, -2]);

@@ -6,6 +6,7 @@ use lib.IntN.{ℤ}
 use lib.Ieee.{Float}
 use Rattle.triple.specs.Refusals.{Told}
 use Rattle.triple.specs.Lent.{Called, CalledBoth}
+use Rattle.sketch.specs.Drawings.{drawCall}
 use Rattle.capi.specs.Calls.{cellCall, positionCall, nodeCall, stepCall, pointCall, cornerCall, tripleCall, writeCall, readCall, lineCall, descendCall, CompileCalled}
 
 -- ---- whatever the call gives
@@ -20,6 +21,9 @@ module _ {A B : Type 0} (call : Told (List A × List B)) (first : List A) (secon
 -- ---- the operations
 pub hb-cell-determined : (o r s : ℕ) (out : List ℤ) (m n : ℕ) (x y : List ℤ) → Called (cellCall o r s) out m x → Called (cellCall o r s) out n y → (m ≡ n) × (x ≡ y)
 hb-cell-determined o r s = called-once (cellCall o r s)
+
+pub hb-draw-determined : (o r : ℕ) (out : List ℤ) (m n : ℕ) (x y : List ℤ) → Called (drawCall o r) out m x → Called (drawCall o r) out n y → (m ≡ n) × (x ≡ y)
+hb-draw-determined o r = called-once (drawCall o r)
 
 pub hb-position-determined : (o r : ℕ) (x y z : ℤ) (out : List ℕ) (m n : ℕ) (v w : List ℕ)
     → Called (positionCall o r x y z) out m v → Called (positionCall o r x y z) out n w → (m ≡ n) × (v ≡ w)

@@ -3,6 +3,8 @@
 pub mod SignedLaws
 -- what is made of the numbers that a call is given
 pub mod GivenLaws
+-- a status by the count that an operation answers
+pub mod CountedLaws
 -- ---- the compiler's call
 -- faults and lines are few, so that both go into a status
 pub mod FaultLaws

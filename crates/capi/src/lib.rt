@@ -13,6 +13,7 @@ ghost use Rattle.triple.specs.Lent.{statusOf, afterCall, firstOf, secondOf};
 ghost use Rattle.capi.specs.Calls.{cellCall, positionCall, nodeCall, stepCall, pointCall, cornerCall, tripleCall, readCall, writeCall, lineCall, descendCall, compileCall, compileStatus};
 ghost use Rattle.capi.specs.Inside.Given.{clipped, nodeClipped};
 ghost use Rattle.triple.specs.Refusals.{numberOf};
+ghost use Rattle.sketch.specs.Drawings.{drawCall};
 use code::ReadAnswer;
 use code::WriteAnswer;
 use curve::PointAnswer;
@@ -33,6 +34,7 @@ use put::put_reading;
 use put::put_step;
 use put::put_triple;
 use query::print::PrintAnswer;
+use sketch::DrawAnswer;
 use tables::compiler::CompileAnswer;
 use triple::Triple;
 use triple::refusal::Refusal;
@@ -51,6 +53,18 @@ pub extern "C" fn hb_cell(orientation: u8, resolution: u8, s: u64, out: &mut [i3
     match answer {
         CellAnswer::Cell(c) => put_cell(c, out),
         CellAnswer::Refused(e) => e.number(),
+    }
+}
+
+// The cells of the curve in order, drawn from its rules with 1 to 6 passes: x y z flavor of each.
+#[no_mangle]
+pub extern "C" fn hb_draw(orientation: u8, resolution: u8, out: &mut [i32]) -> u8
+    ensures { λ n. ⌜ (n ≡ statusOf (drawCall orientation resolution) (now (out .entry))) × (now (out .exit) ≡ afterCall (drawCall orientation resolution) (now (out .entry))) ⌝ }
+{
+    let answer = sketch::draw(orientation, resolution, out);
+    match answer {
+        DrawAnswer::Written(_) => 0,
+        DrawAnswer::Refused(e) => e.number(),
     }
 }
 

@@ -53,7 +53,7 @@ module _ (o r : ℕ) (h : o ≤ 5) (z : r ≡ 0 → ⊥) (k : r ≤ 6) where
   unfolding sketch
   sketch-length = length-listed (λ s. entries (cellOf o r s)) (4 ^ r) fours (4 ^ r) 0 (omega arith)
 
-  cells-told : cellsFrom o r (4 ^ r) 0 ≡ told (sketch o r)
+  pub cells-told : cellsFrom o r (4 ^ r) 0 ≡ told (sketch o r)
   unfolding cellsFrom sketch listed
   cells-told = go r z k (4 ^ r) 0 (omega arith)
     where
