@@ -8,6 +8,7 @@ use Rattle.demands.proofs.ExactlyOnce.{numbering}
 use Rattle.demands.proofs.Steps.{child-steps}
 use Rattle.demands.proofs.Rounded.{points}
 use Rattle.demands.proofs.Drawn.{grammar}
+use Rattle.demands.proofs.Sketched.{drawing-refusals, drawings}
 use Rattle.demands.proofs.ReadBack.{code}
 use Rattle.demands.proofs.Spelled.{code-spelling}
 use Rattle.demands.proofs.TwelveCases.{dozen}
@@ -22,6 +23,8 @@ demands = record {
   points = points;
   grammars = grammar;
   a5 = a5-states;
+  drawing-refusals = drawing-refusals;
+  drawings = drawings;
   codes = code;
   code-spelling = code-spelling;
   dozen = dozen;

@@ -19,6 +19,9 @@ pub mod Rounded
 -- ---- any grammar
 -- what the compiler leaves in a table, descended, is the drawing
 pub mod Drawn
+-- ---- drawings without tables
+-- a drawing lists the cells that the descent over A5's table gives
+pub mod Sketched
 -- ---- codes
 -- a code that was written reads back
 pub mod ReadBack

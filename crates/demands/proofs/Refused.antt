@@ -1,8 +1,8 @@
 -- EVERY CALL is answered or refused by one of its own numbers: those of its tests, as the definition has them; and what is behind the tests is
 -- answered. Of cells and positions that is the numbering, of the inverse its law.
-use mathlib.Core.Path.{refl}
+use mathlib.Core.Path.{_≡_, refl}
 use mathlib.Core.Logic.{⊎-elim}
-use mathlib.Core.Bool.{Bool, true, false, not, cond, _||_, _&&_}
+use mathlib.Core.Bool.{Bool, true, false, not, cond, _||_, _&&_, true≢false}
 use mathlib.Core.Option.{Option, some, none}
 use mathlib.Core.List.{List, [], _∷_}
 use Prim.Native.Nat.{ℕ, zero, suc, _-_, _*_, _^_, _≤_}
@@ -11,7 +11,7 @@ use lib.Dec.{T, leb, ltb, eqb}
 use lib.IntN.{ℤ, pos, negℤ}
 use lib.Ieee.{Float}
 use lib.ListN.{length, getD, take, drop}
-use borrow.Author.Tests.{ltb-false, leb-false, not-false}
+use borrow.Author.Tests.{ltb-false, leb-false, eqb-false, not-false}
 use Rattle.triple.specs.declared.Triple.{Triple}
 use Rattle.triple.specs.declared.refusal.Refusal.the-variants as Is
 use Rattle.triple.specs.Refusals.{Told, told, refused, numberOf, refuse, _>>=_}
@@ -33,6 +33,8 @@ use Rattle.tables.specs.Verdicts.{badSplit, splitTests, verdict}
 use Rattle.lsystem.specs.declared.cell.Cell.{Cell}
 use Rattle.lsystem.specs.Cells.{named, cellOf, positionOf}
 use Rattle.lsystem.proofs.Numbering.{numbers as numbers-of}
+use Rattle.sketch.specs.Drawings.{drawCall}
+use Rattle.sketch.proofs.DrawLaws.{cells-told}
 use Rattle.nodes.specs.declared.Node.{Node}
 use Rattle.nodes.specs.Nodes.{goodNode, childCell, bounded, stepTo, childStepOf, nodeOf}
 use Rattle.nodes.specs.NodeAnswers.{axiomNodeOf}
@@ -163,6 +165,20 @@ descent table n r token s =
     by-test (not (goodTable table n token)) Is.Table tt λ g.
     by-test (leb (4 ^ r) s) Is.Position tt λ l. answer
 
+-- ---- drawings
+-- neither of two tests holds
+neither : (a b : Bool) → (a || b) ≡ false → (a ≡ false) × (b ≡ false)
+neither true b e = absurd (true≢false e)
+neither false b e = (refl, e)
+
+drawing : (o r : ℕ) (buffer : List ℤ) → AnsweredOr (23 ∷ 2 ∷ 10 ∷ []) (countOf (drawCall o r) buffer)
+unfolding drawCall numberOf
+drawing o r buffer =
+    by-room buffer tt
+    (by-test (eqb r 0 || ltb 6 r) Is.Passes tt λ p.
+    by-test (ltb 5 o) Is.Orientation tt λ h.
+    let n = neither (eqb r 0) (ltb 6 r) p in by-answer (cells-told o r (ltb-false 5 o h) (eqb-false r 0 (n .0)) (ltb-false 6 r (n .1))))
+
 -- ---- codes
 writing : (o r s : ℕ) (buffer : List ℕ) → AnsweredOr (1 ∷ 2 ∷ 3 ∷ 10 ∷ []) (countOf (codeOf o r s) buffer)
 unfolding codeOf numberOf
@@ -231,6 +247,7 @@ refusals = record {
   word = word;
   compiler = compiler;
   descent = descent;
+  drawing = drawing;
   writing = writing;
   reading = reading;
   line = line;

@@ -8,7 +8,7 @@ use Prim.Native.Nat.{ℕ, _+_, _-_, _*_, _/_, _^_, _<_, _≤_}
 use lib.Dec.{T, eqb}
 use lib.IntN.{ℤ}
 use lib.Ieee.{Float}
-use lib.ListN.{length, getD, drop}
+use lib.ListN.{length, getD, take, drop}
 use Rattle.triple.specs.declared.Triple.{Triple}
 use Rattle.triple.specs.Refusals.{Told, told, refused, _>>=_}
 use Rattle.triple.specs.Triples.{inBounds, parityOf, closedFlavor, flavorOf}
@@ -28,6 +28,7 @@ use Rattle.a5.specs.A5.{a5Text}
 use Rattle.lsystem.specs.declared.cell.Cell.{Cell}
 use Rattle.lsystem.specs.declared.Position.{Position}
 use Rattle.lsystem.specs.Cells.{drawnCell, named, cellOf, positionOf}
+use Rattle.sketch.specs.Drawings.{drawCall, descended}
 use Rattle.nodes.specs.declared.Node.{Node}
 use Rattle.nodes.specs.Nodes.{goodNode, childStepOf, nodeOf}
 use Rattle.nodes.specs.NodeAnswers.{axiomNodeOf}
@@ -39,7 +40,7 @@ use Rattle.code.specs.Codes.{codeOf, readOf, Bytes}
 use Rattle.query.specs.declared.Query.{Query}
 use Rattle.query.specs.Queries.{answerOf}
 use Rattle.query.specs.Lines.{queryOf}
-use Rattle.capi.specs.Calls.{CompileCalled}
+use Rattle.capi.specs.Calls.{cellCall, CompileCalled}
 use Rattle.demands.specs.Dozen.{Dozen}
 
 -- ---- calls: every call on every input ends with an answer or a numbered refusal
@@ -88,6 +89,8 @@ pub record Refusals : Type 0 where
   pub compiler : (text : List ℕ) (table : List ℤ) → CompiledOr (compiledTo text table)
   -- a table descended, whoever wrote it
   pub descent : (table : List ℤ) (n r token s : ℕ) → AnsweredOr (1 ∷ 22 ∷ 3 ∷ []) (descentOf table n r token s)
+  -- the curve drawn into a buffer
+  pub drawing : (o r : ℕ) (buffer : List ℤ) → AnsweredOr (23 ∷ 2 ∷ 10 ∷ []) (countOf (drawCall o r) buffer)
   -- a code written
   pub writing : (o r s : ℕ) (buffer : List ℕ) → AnsweredOr (1 ∷ 2 ∷ 3 ∷ 10 ∷ []) (countOf (codeOf o r s) buffer)
   -- a code read: 11 where it is empty, and after 2 where it is cut short
@@ -101,7 +104,7 @@ pub record Refusals : Type 0 where
 
 -- ---- lent buffers: a refused call changes none
 pub record LentBuffers : Type 1 where
-  -- that of a word, of a code, or of a line
+  -- that of a word, of a drawing, of a code, or of a line
   pub buffer : {A : Type 0} (call : Told (List A)) (buffer : List A) (n : ℕ) → countOf call buffer ≡ refused n → afterCall call buffer ≡ buffer
   -- the table that is lent to the compiler
   pub table : (text : List ℕ) (table : List ℤ) → ((n : ℕ) → compiledTo text table ≡ states n → ⊥) → afterCompile text table ≡ table
@@ -182,6 +185,27 @@ pub record Grammar (text : List ℕ) (table : List ℤ) (n : ℕ) : Type 0 where
   -- entries past the last state keep their old contents
   pub past : drop (41 * n) (afterCompile text table) ≡ drop (41 * n) table
 
+-- ---- drawings without tables
+pub record DrawingRefusals : Type 0 where
+  -- resolution 0 or above 6 is 23, tested first
+  pub none : (o : ℕ) (buffer : List ℤ) → countOf (drawCall o 0) buffer ≡ refused 23
+  pub deep : (o r : ℕ) (buffer : List ℤ) → 6 < r → countOf (drawCall o r) buffer ≡ refused 23
+  -- then an orientation above 5, by 2
+  pub orientation : (o r : ℕ) (buffer : List ℤ) → 1 ≤ r → r ≤ 6 → 5 < o → countOf (drawCall o r) buffer ≡ refused 2
+  -- and a short buffer last, by 10
+  pub room : (o r : ℕ) (buffer : List ℤ) → 1 ≤ r → r ≤ 6 → o ≤ 5 → length buffer < 4 * 4 ^ r → countOf (drawCall o r) buffer ≡ refused 10
+
+-- of every other call
+pub record Drawing (o r : ℕ) (buffer : List ℤ) : Type 0 where
+  -- it writes triple and flavor of 4 ^ r cells
+  pub count : countOf (drawCall o r) buffer ≡ told (4 * 4 ^ r)
+  -- in order: entries 4 s to 4 s + 3 are those of the cell that s names
+  pub cell : (s : ℕ) → s < 4 ^ r → cellCall o r s ≡ told (take 4 (drop (4 * s) (afterCall (drawCall o r) buffer)))
+  -- and the same, place by place, as those of the cell that the descent over A5's table gives, wherever the compiler left that table
+  pub descent : (table : List ℤ) (s : ℕ) → 41 * 28 ≤ length table → s < 4 ^ r → descended (afterCompile a5Text table) o r s ≡ told (take 4 (drop (4 * s) (afterCall (drawCall o r) buffer)))
+  -- entries past the last cell stay
+  pub past : drop (4 * 4 ^ r) (afterCall (drawCall o r) buffer) ≡ drop (4 * 4 ^ r) buffer
+
 -- ---- position codes: of one that was written in n bytes
 pub record Code (o r s : ℕ) (buffer : List ℕ) (n : ℕ) : Type 0 where
   -- its length is 1 + ceil (r / 4)
@@ -219,6 +243,10 @@ pub record Demands : Type 1 where
   pub grammars : (text : List ℕ) (table : List ℤ) (n : ℕ) → compiledTo text table ≡ states n → Grammar text table n
   -- of A5's text it answers 28, whatever table has the room
   pub a5 : (table : List ℤ) → 41 * 28 ≤ length table → compiledTo a5Text table ≡ states 28
+  -- at every resolution, in every orientation, into every buffer
+  pub drawing-refusals : DrawingRefusals
+  -- with 1 to 6 passes, in six orientations, into every buffer that has the room
+  pub drawings : (o r : ℕ) (buffer : List ℤ) → 1 ≤ r → r ≤ 6 → o ≤ 5 → 4 * 4 ^ r ≤ length buffer → Drawing o r buffer
   -- for everything that the writer answers, whatever its buffer held
   pub codes : (o r s : ℕ) (buffer : List ℕ) (n : ℕ) → countOf (codeOf o r s) buffer ≡ told n → Code o r s buffer n
   -- for every two lists of bytes
