@@ -1,0 +1,31 @@
+-- ---- the code that folds
+-- the tests of a list of positions, and where in it a position stands
+pub mod ListLaws
+-- the positions of a cell, which stand from an entry on
+pub mod BlockLaws
+-- what holds of all that lies in a cell, by three cases
+pub mod Induction
+-- the fold from the front: the largest cell that begins there, and so on
+pub mod StepLaws
+-- the walk along a list, and the pairs that it stores
+pub mod WalkLaws
+-- what `fold` answers at each of its tests
+pub mod FoldAnswerLaws
+-- ---- what a fold is
+-- unfolding it gives the list back; it is in curve order
+pub mod Unfolding
+-- it covers the same positions
+pub mod Ground
+-- no four siblings stand in it
+pub mod Siblings
+-- no list of cells that covers the same is shorter
+pub mod Shortest
+-- no other list without four siblings unfolds to the same
+pub mod Unique
+-- folding four children at a time ends there, and nowhere else
+pub mod FoldingLaws
+-- ---- all operations
+-- each contract allows one result alone
+pub mod Determined
+-- worked examples
+pub mod Examples
