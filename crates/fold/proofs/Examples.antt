@@ -1,10 +1,10 @@
--- Worked examples of folding, by computation.
+-- Worked examples of folding and unfolding, by computation.
 use mathlib.Core.Path.{_≡_, refl}
 use mathlib.Core.List.{[], _∷_}
 use Rattle.triple.specs.Refusals.{told, refused, numberOf}
-use Rattle.fold.specs.Cells.{cell, pairs}
+use Rattle.fold.specs.Cells.{cell, pairs, cellsIn}
 use Rattle.fold.specs.Folds.{has, hasAll, allBelow, ascending, whole, foldIn, foldOf, foldCall}
-use Rattle.fold.specs.Unfolds.{run, unfoldOf}
+use Rattle.fold.specs.Unfolds.{shallow, inside, apart, ordered, run, unfoldOf, unfoldCall}
 
 -- a list that is not cut at a cell's bounds; one that is all of resolution 0; none
 pub fold-examples :
@@ -28,3 +28,18 @@ pub call-examples :
     × (foldCall 5 1 [] ≡ told [])
 unfolding numberOf has hasAll allBelow ascending whole foldIn foldOf pairs foldCall
 call-examples = (refl, refl, refl, refl, refl, refl, refl)
+
+-- cells of three resolutions, and none; a pair finer than asked, before an orientation that there is not, before a position that its resolution
+-- has not; a number without its partner, which is not looked at; two cells that overlap, and one that lies before the one in front of it
+pub unfold-examples :
+    (unfoldCall 0 2 (2 ∷ 3 ∷ 1 ∷ 1 ∷ 2 ∷ 8 ∷ []) ≡ told (3 ∷ 4 ∷ 5 ∷ 6 ∷ 7 ∷ 8 ∷ []))
+    × (unfoldCall 5 30 [] ≡ told [])
+    × (unfoldCall 6 31 [] ≡ refused 1)
+    × (unfoldCall 6 1 (0 ∷ 7 ∷ 2 ∷ 0 ∷ []) ≡ refused 1)
+    × (unfoldCall 6 1 (0 ∷ 7 ∷ []) ≡ refused 2)
+    × (unfoldCall 5 1 (1 ∷ 1 ∷ 1 ∷ 0 ∷ 1 ∷ 4 ∷ []) ≡ refused 3)
+    × (unfoldCall 5 1 (31 ∷ []) ≡ refused 25)
+    × (unfoldCall 5 2 (1 ∷ 0 ∷ 2 ∷ 3 ∷ []) ≡ refused 25)
+    × (unfoldCall 5 1 (1 ∷ 1 ∷ 1 ∷ 0 ∷ []) ≡ refused 25)
+unfolding numberOf cellsIn shallow inside apart ordered run unfoldOf unfoldCall
+unfold-examples = (refl, refl, refl, refl, refl, refl, refl, refl, refl)

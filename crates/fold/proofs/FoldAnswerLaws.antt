@@ -15,22 +15,21 @@ use Rattle.triple.specs.Domain.{domainOf, positionCount}
 use Rattle.triple.specs.Answers.{saidDomain}
 use Rattle.triple.specs.Lent.{valued, countOf, afterCall, Counted}
 use Rattle.triple.proofs.DomainLaws.{out-of-domain, in-domain, shallow, positions-are}
-use Rattle.triple.proofs.LentLaws.{count-short, count-whole}
+use Rattle.triple.proofs.LentLaws.{count-short, count-whole, counted-kept}
 use Rattle.fold.specs.Cells.{pairs}
 use Rattle.fold.specs.Folds.{allBelow, ascending, foldOf, foldCall}
 use Rattle.fold.specs.Inside.Blocks.{Listed}
 use Rattle.fold.proofs.ListLaws.{is-rising}
-use Rattle.fold.proofs.WalkLaws.{length-pairs}
+use Rattle.fold.proofs.PairLaws.{length-pairs}
 
 -- ---- a call that is refused before its room is asked for
 module _ {A : Type 0} (slice : List A) {call : Told (List A)} {n : ℕ} (e : refused n ≡ call) where
-  pub refused-count : (f : ℕ → ℕ) → refused n ≡ valued f (countOf call slice)
+  pub refused-count : refused n ≡ countOf call slice
   unfolding countOf
-  refused-count f = rw (← e)
+  refused-count = rw (← e)
 
   pub refused-left : slice ≡ afterCall call slice
-  unfolding afterCall
-  refused-left = rw (← e)
+  refused-left = sym (counted-kept call slice (sym refused-count))
 
 -- ---- the room, of a list that has passed its tests
 module _ (r : ℕ) (xs slice : List ℕ) {room : Bool} (room-is : room ≡ leb (length (foldOf r xs)) (length slice / 2)) where
@@ -70,7 +69,7 @@ module _ (o r : ℕ) (xs slice : List ℕ) {a : DomainAnswer} (ea : saidDomain a
     outside = out-of-domain o r a ea _ m
 
     pub outside-count : refused (numberOf e) ≡ valued (λ n. n / 2) (countOf (foldCall o r xs) slice)
-    outside-count = refused-count slice outside (λ n. n / 2)
+    outside-count = ap (valued (λ n. n / 2)) (refused-count slice outside)
 
     pub outside-left : slice ≡ afterCall (foldCall o r xs) slice
     outside-left = refused-left slice outside
@@ -86,7 +85,7 @@ module _ (o r : ℕ) (xs slice : List ℕ) {a : DomainAnswer} (ea : saidDomain a
       past = let e : allBelow (4 ^ r) xs ≡ false = rw (← sized) (sym below-is ∙ not-true below h) in simp e (in-domain o r a ea m _)
 
       pub past-count : refused (numberOf Is.Position) ≡ valued (λ n. n / 2) (countOf (foldCall o r xs) slice)
-      past-count = refused-count slice past (λ n. n / 2)
+      past-count = ap (valued (λ n. n / 2)) (refused-count slice past)
 
       pub past-left : slice ≡ afterCall (foldCall o r xs) slice
       past-left = refused-left slice past
@@ -101,7 +100,7 @@ module _ (o r : ℕ) (xs slice : List ℕ) {a : DomainAnswer} (ea : saidDomain a
         unordered = simp (inside, sym rising-is ∙ not-true rising h) (in-domain o r a ea m _)
 
         pub unordered-count : refused (numberOf Is.Order) ≡ valued (λ n. n / 2) (countOf (foldCall o r xs) slice)
-        unordered-count = refused-count slice unordered (λ n. n / 2)
+        unordered-count = ap (valued (λ n. n / 2)) (refused-count slice unordered)
 
         pub unordered-left : slice ≡ afterCall (foldCall o r xs) slice
         unordered-left = refused-left slice unordered

@@ -12,7 +12,7 @@ use Rattle.fold.specs.Folds.{allBelow, ascending, foldOf}
 use Rattle.fold.specs.Unfolds.{run, unfoldOf}
 use Rattle.fold.specs.Foldings.{cellsOf, children, Step, Foldings, ended, further, Ended}
 use Rattle.fold.proofs.StepLaws.{Steps, fold-steps}
-use Rattle.fold.proofs.Unfolding.{unfold-fold}
+use Rattle.fold.proofs.GivenBack.{unfold-fold}
 use Rattle.fold.proofs.Unique.{Coarse, only-fold}
 
 -- ---- runs of positions, cut

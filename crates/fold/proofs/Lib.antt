@@ -1,6 +1,8 @@
 -- ---- the code that folds
 -- the tests of a list of positions, and where in it a position stands
 pub mod ListLaws
+-- cells as pairs of numbers
+pub mod PairLaws
 -- the positions of a cell, which stand from an entry on
 pub mod BlockLaws
 -- what holds of all that lies in a cell, by three cases
@@ -11,9 +13,18 @@ pub mod StepLaws
 pub mod WalkLaws
 -- what `fold` answers at each of its tests
 pub mod FoldAnswerLaws
+-- ---- the code that unfolds
+-- the tests of a list of pairs
+pub mod PairTestLaws
+-- runs of positions, and how many there are
+pub mod RunLaws
+-- the walk along pairs, and the positions that it stores
+pub mod UnfoldLaws
+-- what `unfold` answers at each of its tests
+pub mod UnfoldAnswerLaws
 -- ---- what a fold is
 -- unfolding it gives the list back; it is in curve order
-pub mod Unfolding
+pub mod GivenBack
 -- it covers the same positions
 pub mod Ground
 -- no four siblings stand in it
@@ -24,7 +35,12 @@ pub mod Shortest
 pub mod Unique
 -- folding four children at a time ends there, and nowhere else
 pub mod FoldingLaws
+-- ---- what unfolding gives
+-- a list of positions, ascending, of what the cells cover
+pub mod UnfoldedLists
 -- ---- all operations
+-- what a call gives has passed its tests, and each undoes the other
+pub mod CallLaws
 -- each contract allows one result alone
 pub mod Determined
 -- worked examples

@@ -17,6 +17,7 @@ use Rattle.fold.specs.Unfolds.{run, unfoldOf}
 use Rattle.fold.specs.Foldings.{children, Step, Ended, Lone}
 use Rattle.fold.specs.Inside.Blocks.{blockAt}
 use Rattle.fold.proofs.BlockLaws.{which, quarters, block-facts, block-is, block-run, block-less, level-unique}
+use Rattle.fold.proofs.RunLaws.{length-run, getD-run}
 use Rattle.fold.proofs.StepLaws.{Steps, fold-steps}
 
 cancel : (a b k : ℕ) → a * 4 ^ k ≡ b * 4 ^ k → a ≡ b
@@ -48,17 +49,6 @@ Along r xs i (cell m p ∷ cells) =
 abbrev pub Coarse : ℕ → List Cell → Type 0
 Coarse r [] = Unit {0}
 Coarse r (cell m p ∷ cells) = (m ≤ r) × Coarse r cells
-
-getD-run : (n s d : ℕ) (rest : List ℕ) → d < n → getD (run s n ++ rest) d 0 ≡ s + d
-unfolding run
-getD-run zero s d rest h = let z : ⊥ = omega arith in absurd z
-getD-run (suc n) s zero rest h = rw N.add-zero
-getD-run (suc n) s (suc d) rest h = getD-run n (suc s) d rest (omega arith) ∙ omega arith
-
-pub length-run : (s n : ℕ) → length (run s n) ≡ n
-unfolding run
-length-run s zero = refl
-length-run s (suc n) = ap suc (length-run (suc s) n)
 
 along : (r : ℕ) (xs : List ℕ) (i : ℕ) (cells : List Cell) → Coarse r cells → unfoldOf r cells ≡ drop i xs → Along r xs i cells
 unfolding unfoldOf

@@ -16,23 +16,9 @@ use Rattle.triple.specs.Domain.{positionCount}
 use Rattle.fold.specs.Cells.{Cell, cell, pairs}
 use Rattle.fold.specs.Folds.{allBelow, ascending, foldOf}
 use Rattle.fold.specs.Inside.Blocks.{Listed, Level}
+use Rattle.fold.proofs.PairLaws.{length-pairs, pairs-at}
 use Rattle.fold.proofs.BlockLaws.{block-facts, level-unique, level-size, level-fits, level-fits-word, level-steps}
 use Rattle.fold.proofs.StepLaws.{Steps, fold-steps}
-
--- ---- pairs
-pub length-pairs : (cells : List Cell) → length (pairs cells) ≡ 2 * length cells
-unfolding pairs
-length-pairs [] = refl
-length-pairs (cell m p ∷ cells) = omega (arith, length-pairs cells)
-
-pub pairs-at : (cells rest : List Cell) (n m p : ℕ) → drop n cells ≡ cell m p ∷ rest → (getD (pairs cells) (2 * n) 0 ≡ m) × (getD (pairs cells) (2 * n + 1) 0 ≡ p)
-unfolding pairs
-pairs-at cells rest zero m p e = rw e (refl, refl)
-pairs-at [] rest (suc n) m p e = let z : _≡_ {A = ℕ} 0 1 = cc in let y : ⊥ = omega arith in absurd y
-pairs-at (cell a b ∷ cells) rest (suc n) m p e =
-    let f : 2 * suc n ≡ suc (suc (2 * n)) = omega arith in
-    let g : suc (suc (2 * n)) + 1 ≡ suc (suc (2 * n + 1)) = omega arith in
-    rw (f, g) (pairs-at cells rest n m p e)
 
 -- ---- one step
 -- the next cell is the one whose level is found

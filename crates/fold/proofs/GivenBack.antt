@@ -2,17 +2,18 @@
 use mathlib.Core.Bool.{true}
 use mathlib.Core.Path.{_≡_, refl, sym, ap}
 use mathlib.Core.List.{List, [], _∷_, _++_}
-use Prim.Native.Nat.{ℕ, zero, suc, _+_, _-_, _*_, _^_, _<_}
+use Prim.Native.Nat.{ℕ, zero, suc, _+_, _-_, _*_, _^_, _<_, _≤_}
 use native.Mathlib.Nat as N
 use native.Mathlib.Omega.{arith}
+use native.Mathlib.Decide.{decLt}
 use lib.ListN.{length, getD, drop, drop-of-length-le}
+use lib.Pow.{pow-add}
 use lib.Seq.{drop-cons}
-use borrow.Author.Tests.{lt-ltb}
-use Rattle.whole.proofs.Digits.{four-power}
 use Rattle.fold.specs.Cells.{Cell, cell}
 use Rattle.fold.specs.Folds.{allBelow, ascending, foldOf}
 use Rattle.fold.specs.Unfolds.{run, unfoldOf}
-use Rattle.fold.proofs.ListLaws.{gap}
+use Rattle.fold.specs.Inside.Pairs.{Laid}
+use Rattle.fold.proofs.ListLaws.{at-below, gap}
 use Rattle.fold.proofs.BlockLaws.{block-run}
 use Rattle.fold.proofs.StepLaws.{Steps, fold-steps}
 
@@ -43,18 +44,26 @@ pub fold-empty : (r : ℕ) → foldOf r [] ≡ []
 unfolding allBelow ascending
 fold-empty r = no-steps r (foldOf r []) (fold-steps r [] refl refl)
 
--- the first position of each cell
-abbrev pub firsts : ℕ → List Cell → List ℕ
-firsts r [] = []
-firsts r (cell m p ∷ cells) = p * 4 ^ (r - m) ∷ firsts r cells
+-- ---- its cells are in curve order and apart
+inside-cell : (r m p : ℕ) → m ≤ r → p * 4 ^ (r - m) < 4 ^ r → p < 4 ^ m
+inside-cell r m p h l = elim (decLt p (4 ^ m)) [
+  | yes g ↦ g
+  | no g ↦
+      (let e : m + (r - m) ≡ r = omega arith in
+      let f : 4 ^ m ≤ p = omega arith in
+      let z : ⊥ = omega (arith, N.mul-le-mul-right (4 ^ (r - m)) f, pow-add 4 m (r - m), ap (λ (x : ℕ). 4 ^ x) e) in
+      absurd z)
+]
 
-order-steps : (r : ℕ) (xs : List ℕ) → ascending xs ≡ true → (i : ℕ) (cells : List Cell) → Steps r xs i cells → ascending (firsts r cells) ≡ true
-unfolding ascending
-order-steps r xs up i [] s = refl
-order-steps r xs up i (cell m p ∷ []) s = refl
-order-steps r xs up i (cell m p ∷ cell n q ∷ cells) s =
-    let g = gap xs up i (4 ^ (r - m)) (s .4 .1) in
-    rw (lt-ltb (p * 4 ^ (r - m)) (q * 4 ^ (r - n)) (omega (arith, four-power (r - m), s .3, s .4 .3))) (order-steps r xs up (i + 4 ^ (r - m)) (cell n q ∷ cells) (s .4))
+module _ (r : ℕ) (xs : List ℕ) (below : allBelow (4 ^ r) xs ≡ true) (up : ascending xs ≡ true) where
+  steps-laid : (i : ℕ) (cells : List Cell) (place : ℕ) → (i < length xs → place ≤ getD xs i 0) → Steps r xs i cells → Laid r place cells
+  steps-laid i [] place h s = tt
+  steps-laid i (cell m p ∷ cells) place h s =
+      let k = 4 ^ (r - m) in
+      let first = at-below (4 ^ r) xs below i (s .1) in
+      let low = h (s .1) in
+      let more : i + k < length xs → suc p * k ≤ getD xs (i + k) 0 = λ l. omega (arith, N.suc-mul p k, gap xs up i k l, s .3) in
+      (s .0, inside-cell r m p (s .0) (omega (arith, s .3)), omega (arith, s .3), steps-laid (i + k) cells (suc p * k) more (s .4))
 
-pub in-curve-order : (r : ℕ) (xs : List ℕ) → allBelow (4 ^ r) xs ≡ true → ascending xs ≡ true → ascending (firsts r (foldOf r xs)) ≡ true
-in-curve-order r xs below up = order-steps r xs up 0 (foldOf r xs) (fold-steps r xs up below)
+  pub fold-laid : Laid r 0 (foldOf r xs)
+  fold-laid = steps-laid 0 (foldOf r xs) 0 (λ h. omega arith) (fold-steps r xs up below)
