@@ -1,15 +1,15 @@
 -- The calls: what they give has passed every test, and each undoes the other.
-use mathlib.Core.Bool.{true, false, not}
+use mathlib.Core.Bool.{true, not}
 use mathlib.Core.Logic.{_↔_}
 use mathlib.Core.Path.{_≡_, refl, sym, ap, subst, _∙_}
 use mathlib.Core.List.{List, [], _∷_}
-use Prim.Native.Nat.{ℕ, _%_, _*_, _^_, _≤_}
+use Prim.Native.Nat.{ℕ, _+_, _-_, _%_, _^_, _≤_}
 use native.Mathlib.Omega.{arith}
 use lib.Dec.{ltb, eqb}
 use lib.ListN.{length}
 use borrow.Author.Tests.{le-ltb, ltb-false, eq-eqb, eqb-true, not-false}
 use Rattle.triple.specs.declared.refusal.Refusal.the-variants as Is
-use Rattle.triple.specs.Refusals.{Told, told}
+use Rattle.triple.specs.Refusals.{told}
 use Rattle.triple.proofs.RefusalLaws.{passed}
 use Rattle.triple.proofs.DomainLaws.{domain-in}
 use Rattle.fold.specs.Cells.{Cell, cell, pairs, cellsIn, Covered}
@@ -19,13 +19,19 @@ use Rattle.fold.specs.Foldings.{Lone}
 use Rattle.fold.specs.Inside.Pairs.{Laid}
 use Rattle.fold.proofs.ListLaws.{both-true}
 use Rattle.fold.proofs.PairLaws.{length-pairs, cells-of-pairs, pairs-of-cells}
-use Rattle.fold.proofs.PairTestLaws.{laid-shallow, laid-inside, laid-apart, ordered-laid}
+use Rattle.fold.proofs.PairTestLaws.{laid-shallow, laid-inside, laid-apart, laid-finer, ordered-laid}
 use Rattle.fold.proofs.GivenBack.{unfold-fold, fold-empty, fold-laid}
+use Rattle.fold.proofs.Siblings.{no-four-siblings}
+use Rattle.fold.proofs.Shortest.{shortest}
 use Rattle.fold.proofs.Unique.{Coarse, only-fold, lone-ended}
 use Rattle.fold.proofs.UnfoldedLists.{unfold-below, unfold-ascending, unfold-ground}
 
 same-told : {A : Type 0} {a b : A} → told a ≡ told b → a ≡ b
 same-told e = cc
+
+coarse-laid : (r place : ℕ) (cells : List Cell) → Laid r place cells → Coarse r cells
+coarse-laid r place [] l = tt
+coarse-laid r place (cell m p ∷ cells) l = (l .0, coarse-laid r _ cells (l .3))
 
 -- ---- folding
 -- a list that was folded
@@ -62,6 +68,20 @@ fold-told o r xs h k below rising = simp (below, rising) (sym (domain-in o r _ h
 pub empty-folds : (o r : ℕ) → o ≤ 5 → r ≤ 30 → foldCall o r [] ≡ told []
 unfolding allBelow ascending pairs
 empty-folds o r k h = fold-told o r [] h k refl refl ∙ ap (λ (l : List Cell). told (pairs l)) (fold-empty r)
+
+-- NO SHORTER LIST of cells covers the same ground, told by the positions of any resolution from r up: so it may have cells finer than r
+pub folded-shortest : (r : ℕ) (xs : List ℕ) → allBelow (4 ^ r) xs ≡ true → ascending xs ≡ true → (q : ℕ) → r ≤ q → (cells : List Cell)
+    → ((s : ℕ) → Covered q cells s ↔ Covered q (foldOf r xs) s) → length (foldOf r xs) ≤ length cells
+folded-shortest r xs below rising q h cells same =
+    let fold = foldOf r xs in
+    let fine : r + (q - r) ≡ q = omega arith in
+    let laid : Laid q 0 fold = rw fine at (laid-finer r (q - r) fold (fold-laid r xs below rising)) in
+    let all = unfoldOf q fold in
+    let only : fold ≡ foldOf q all =
+    only-fold q all (unfold-ascending q 0 fold laid) (unfold-below q 0 fold laid) fold (coarse-laid q 0 fold laid) refl (lone-ended fold (no-four-siblings r xs)) in
+    let ground : (s : ℕ) → Covered q cells s ↔ (has all s ≡ true) =
+    λ s. (let c = unfold-ground q s fold laid in (λ k. c .0 (same s .0 k), λ k. same s .1 (c .1 k))) in
+    omega (arith, ap length only, shortest q all cells ground)
 
 -- ---- unfolding
 -- pairs that were unfolded
@@ -105,10 +125,6 @@ folded-unfolds o r xs {out} e =
     unfold-told o r out (f .low) (f .oriented) even laid ∙ ap told (ap (unfoldOf r) (f .cells) ∙ unfold-fold r xs (f .below) (f .rising))
 
 -- ---- FOLDING WHAT WAS UNFOLDED gives the pairs back, where no four siblings stand in them
-coarse-laid : (r place : ℕ) (cells : List Cell) → Laid r place cells → Coarse r cells
-coarse-laid r place [] l = tt
-coarse-laid r place (cell m p ∷ cells) l = (l .0, coarse-laid r _ cells (l .3))
-
 pub unfolded-folds : (o r : ℕ) (xs : List ℕ) {out : List ℕ} → unfoldCall o r xs ≡ told out → Lone (cellsIn xs) → foldCall o r out ≡ told xs
 unfolded-folds o r xs {out} e lone =
     let u = unfolded o r xs e in

@@ -1,10 +1,11 @@
 -- Cells as pairs of numbers, there and back, and pair by pair.
-use mathlib.Core.Path.{_≡_, refl, ap}
+use mathlib.Core.Path.{_≡_, refl, sym, ap, _∙_}
 use mathlib.Core.List.{List, [], _∷_}
 use Prim.Native.Nat.{ℕ, zero, suc, _+_, _-_, _*_, _%_, _<_, _≤_}
 use native.Mathlib.Omega.{arith}
-use lib.ListN.{length, getD, drop, length-drop}
+use lib.ListN.{length, getD, drop, set, length-drop}
 use lib.Seq.{drop-cons}
+use Rattle.whole.proofs.Fill.{poured, poured-more}
 use Rattle.fold.specs.Cells.{Cell, cell, pairs, cellsIn}
 
 -- ---- the pairs of cells
@@ -14,7 +15,7 @@ length-pairs [] = refl
 length-pairs (cell m p ∷ cells) = omega (arith, length-pairs cells)
 
 -- those of a cell
-pub pairs-at : (cells rest : List Cell) (n m p : ℕ) → drop n cells ≡ cell m p ∷ rest → (getD (pairs cells) (2 * n) 0 ≡ m) × (getD (pairs cells) (2 * n + 1) 0 ≡ p)
+pairs-at : (cells rest : List Cell) (n m p : ℕ) → drop n cells ≡ cell m p ∷ rest → (getD (pairs cells) (2 * n) 0 ≡ m) × (getD (pairs cells) (2 * n + 1) 0 ≡ p)
 unfolding pairs
 pairs-at cells rest zero m p e = rw e (refl, refl)
 pairs-at [] rest (suc n) m p e = let z : _≡_ {A = ℕ} 0 1 = cc in let y : ⊥ = omega arith in absurd y
@@ -22,6 +23,19 @@ pairs-at (cell a b ∷ cells) rest (suc n) m p e =
     let f : 2 * suc n ≡ suc (suc (2 * n)) = omega arith in
     let g : suc (suc (2 * n)) + 1 ≡ suc (suc (2 * n + 1)) = omega arith in
     rw (f, g) (pairs-at cells rest n m p e)
+
+-- one more pair, stored behind n of them
+pub pairs-poured : (cells rest : List Cell) (n m p : ℕ) → drop n cells ≡ cell m p ∷ rest → (slice : List ℕ) → 2 * length cells ≤ length slice
+    → set (set (poured (pairs cells) (2 * n) slice) (2 * n) m) (2 * n + 1) p ≡ poured (pairs cells) (2 * (n + 1)) slice
+pairs-poured cells rest n m p e slice room =
+    let w = pairs cells in
+    let long = length-pairs cells in
+    let left : n < length cells = omega (arith, length-drop n cells, ap length e) in
+    let at = pairs-at cells rest n m p e in
+    let two : 2 * (n + 1) ≡ 2 * n + 1 + 1 = omega arith in
+    rw two
+    (ap (λ (l : List ℕ). set l (2 * n + 1) p) (poured-more w slice (2 * n) 0 m (omega arith) (omega arith) (sym (at .0)))
+    ∙ poured-more w slice (2 * n + 1) 0 p (omega arith) (omega arith) (sym (at .1)))
 
 -- ---- and the cells of pairs
 pub cells-of-pairs : (cells : List Cell) → cellsIn (pairs cells) ≡ cells

@@ -1,5 +1,5 @@
 -- The tests of a list of pairs: what was read and the rest from i on tell what the whole list tells. What a list that passes them has.
-use mathlib.Core.Bool.{Bool, true, false, not, cond, _&&_, and-true, and-false, and-assoc, and-comm, true≢false}
+use mathlib.Core.Bool.{Bool, true, false, not, _&&_, and-true, and-false, and-assoc, and-comm, true≢false}
 use mathlib.Core.Path.{_≡_, refl, sym, ap, subst, _∙_}
 use mathlib.Core.List.{List, [], _∷_}
 use Prim.Native.Nat.{ℕ, suc, _+_, _-_, _*_, _%_, _^_, _<_, _≤_}
@@ -56,6 +56,26 @@ pub ends-inside : (r m p : ℕ) → m ≤ r → p < 4 ^ m → suc p * 4 ^ (r - m
 ends-inside r m p h l =
     let e : m + (r - m) ≡ r = omega arith in
     omega (arith, N.mul-le-mul-right (4 ^ (r - m)) l, pow-add 4 m (r - m), ap (λ (x : ℕ). 4 ^ x) e)
+
+-- ---- cells that are apart are so at every finer resolution
+module _ (r d : ℕ) where
+  scaled : (m p : ℕ) → m ≤ r → p * 4 ^ (r + d - m) ≡ p * 4 ^ (r - m) * 4 ^ d
+  scaled m p h =
+      let e : r + d - m ≡ (r - m) + d = omega arith in
+      ap (λ (x : ℕ). p * 4 ^ x) e ∙ ap (λ (x : ℕ). p * x) (pow-add 4 (r - m) d) ∙ sym (N.mul-assoc p (4 ^ (r - m)) (4 ^ d))
+
+  laid-scaled : (place : ℕ) (cells : List Cell) → Laid r place cells → Laid (r + d) (place * 4 ^ d) cells
+  laid-scaled place [] l = tt
+  laid-scaled place (cell m p ∷ cells) l =
+      let h = l .0 in (
+        omega arith,
+        l .1,
+        rw (scaled m p h) (N.mul-le-mul-right (4 ^ d) (l .2)),
+        rw (scaled m (suc p) h) (laid-scaled (suc p * 4 ^ (r - m)) cells (l .3)),
+      )
+
+  pub laid-finer : (cells : List Cell) → Laid r 0 cells → Laid (r + d) 0 cells
+  laid-finer cells l = rw (N.zero-mul (4 ^ d)) at (laid-scaled 0 cells l)
 
 pub low-power : (r : ℕ) → r ≤ 30 → 4 ^ r ≤ 4 ^ 30
 low-power r h = N.pow-le-pow-right {n = 4} (omega arith) h

@@ -9,7 +9,6 @@ use lib.Seq.{take-add, take-at, drop-at, drop-drop, length-take-le}
 use mir.Syntax.{w64}
 use mir.Val.{Fits}
 use borrow.Rule.Slice.PartMut.{putMid}
-use Rattle.whole.proofs.Digits.{four-power}
 use Rattle.whole.proofs.Fill.{poured, fronted, fronted-back, length-fronted, poured-all}
 use Rattle.triple.specs.Domain.{positionCount}
 use Rattle.triple.proofs.DomainLaws.{positions-are}
@@ -18,7 +17,7 @@ use Rattle.fold.specs.Unfolds.{run, unfoldOf}
 use Rattle.fold.specs.Inside.Pairs.{Laid, Tested}
 use Rattle.fold.proofs.PairLaws.{cells-next, cells-none}
 use Rattle.fold.proofs.PairTestLaws.{ends-inside, low-power}
-use Rattle.fold.proofs.RunLaws.{length-run, length-unfold, unfold-inside, laid-earlier}
+use Rattle.fold.proofs.RunLaws.{length-run, unfold-inside, laid-earlier}
 
 abbrev pub positionsOf : ℕ → List ℕ → List ℕ
 positionsOf r xs = unfoldOf r (cellsIn xs)

@@ -1,5 +1,5 @@
 -- What cells that are apart unfold to: a list of positions of the resolution, strictly ascending, of what the cells cover and nothing else.
-use mathlib.Core.Bool.{Bool, true, false, _&&_, _||_, or-assoc, or-true, false≢true}
+use mathlib.Core.Bool.{Bool, true, false, _||_, or-assoc, or-true, false≢true}
 use mathlib.Core.Logic.{_↔_, _⊎_, inl, inr, ⊎-elim}
 use mathlib.Core.Path.{_≡_, refl, sym, ap, _∙_}
 use mathlib.Core.List.{List, [], _∷_, _++_}
@@ -7,10 +7,10 @@ use Prim.Native.Nat.{ℕ, zero, suc, _+_, _-_, _*_, _/_, _^_, _<_, _≤_}
 use native.Mathlib.Nat as N
 use native.Mathlib.Numerals.{add-one}
 use native.Mathlib.Omega.{arith}
-use native.Mathlib.Decide.{decLt, ℕ-discrete}
+use native.Mathlib.Decide.{ℕ-discrete}
 use lib.Dec.{eqb}
 use borrow.Author.Tests.{lt-ltb, eq-eqb, ne-eqb}
-use Rattle.whole.proofs.Digits.{four-power, four-times-power}
+use Rattle.whole.proofs.Digits.{four-power}
 use Rattle.fold.specs.Cells.{Cell, cell, Covered}
 use Rattle.fold.specs.Folds.{has, allBelow, ascending}
 use Rattle.fold.specs.Unfolds.{run, unfoldOf}

@@ -14,7 +14,7 @@ use Rattle.whole.proofs.Digits.{four-power, four-times-power, digit-below}
 use Rattle.fold.specs.Cells.{Cell, cell}
 use Rattle.fold.specs.Folds.{ascending, allBelow, foldOf}
 use Rattle.fold.specs.Unfolds.{run, unfoldOf}
-use Rattle.fold.specs.Foldings.{children, Step, Ended, Lone}
+use Rattle.fold.specs.Foldings.{children, Ended, Lone}
 use Rattle.fold.specs.Inside.Blocks.{blockAt}
 use Rattle.fold.proofs.BlockLaws.{which, quarters, block-facts, block-is, block-run, block-less, level-unique}
 use Rattle.fold.proofs.RunLaws.{length-run, getD-run}

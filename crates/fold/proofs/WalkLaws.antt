@@ -1,8 +1,8 @@
 -- The walk of the code along a list: how many cells of the fold are behind it, and which one is next.
 use mathlib.Core.Bool.{true}
-use mathlib.Core.Path.{_≡_, refl, sym, ap, ap₂, _∙_}
+use mathlib.Core.Path.{_≡_, refl, sym, ap, ap₂}
 use mathlib.Core.List.{List, [], _∷_, _++_}
-use Prim.Native.Nat.{ℕ, zero, suc, _+_, _-_, _*_, _/_, _^_, _<_, _≤_}
+use Prim.Native.Nat.{ℕ, _+_, _-_, _*_, _/_, _^_, _<_, _≤_}
 use native.Mathlib.Nat as N
 use native.Mathlib.Omega.{arith}
 use lib.Dec.{leb}
@@ -11,12 +11,12 @@ use lib.Seq.{drop-drop}
 use borrow.Author.Tests.{le-leb}
 use Rattle.whole.proofs.Digits.{four-power}
 use Rattle.whole.proofs.Powers.{four-by-shift}
-use Rattle.whole.proofs.Fill.{poured, poured-more, poured-all}
+use Rattle.whole.proofs.Fill.{poured, poured-all}
 use Rattle.triple.specs.Domain.{positionCount}
 use Rattle.fold.specs.Cells.{Cell, cell, pairs}
 use Rattle.fold.specs.Folds.{allBelow, ascending, foldOf}
 use Rattle.fold.specs.Inside.Blocks.{Listed, Level}
-use Rattle.fold.proofs.PairLaws.{length-pairs, pairs-at}
+use Rattle.fold.proofs.PairLaws.{length-pairs, pairs-poured}
 use Rattle.fold.proofs.BlockLaws.{block-facts, level-unique, level-size, level-fits, level-fits-word, level-steps}
 use Rattle.fold.proofs.StepLaws.{Steps, fold-steps}
 
@@ -93,18 +93,10 @@ module _ (r : ℕ) (xs slice : List ℕ) {n i : ℕ} {out : List ℕ} (room : 2 
     pub stored-more : {size : ℕ} → size ≡ positionCount k
         → Stored r xs slice (n + 1) (i + size) (set (set out (2 * n) (r - k)) (2 * n + 1) (getD xs i 0 / 2 ^ (2 * k)))
     stored-more e =
-        let w = pairs (foldOf r xs) in
-        let long = length-pairs (foldOf r xs) in
-        let more = left in
-        let at = pairs-at (foldOf r xs) _ n _ _ (next r xs n i (stored .walked) good h l .0) in
-        let two : 2 * (n + 1) ≡ 2 * n + 1 + 1 = omega arith in
         record {
           walked = walk-more r xs n i (stored .walked) good h l e;
           same-length = simp length-set (stored .same-length);
-          poured-so =
-              rw (stored .poured-so, two)
-              (ap (λ (y : List ℕ). set y (2 * n + 1) (getD xs i 0 / 2 ^ (2 * k))) (poured-more w slice (2 * n) 0 (r - k) (omega arith) (omega arith) (sym (at .0)))
-              ∙ poured-more w slice (2 * n + 1) 0 (getD xs i 0 / 2 ^ (2 * k)) (omega arith) (omega arith) (rw (four-by-shift k) (sym (at .1))));
+          poured-so = rw (stored .poured-so, four-by-shift k) (pairs-poured (foldOf r xs) _ n _ _ (next r xs n i (stored .walked) good h l .0) slice room);
         }
 
   module _ (h : length xs ≤ i) where
