@@ -1,5 +1,6 @@
 -- ALL THAT WAS ASKED holds.
 use Rattle.a5.proofs.A5Compiled.{a5-states}
+use Rattle.fold.proofs.CallLaws.{empty-folds}
 use Rattle.demands.specs.Demands.{Demands}
 use Rattle.demands.proofs.Refused.{refusals}
 use Rattle.demands.proofs.Kept.{lent-buffers}
@@ -11,6 +12,7 @@ use Rattle.demands.proofs.Drawn.{grammar}
 use Rattle.demands.proofs.Sketched.{drawing-refusals, drawings}
 use Rattle.demands.proofs.ReadBack.{code}
 use Rattle.demands.proofs.Spelled.{code-spelling}
+use Rattle.demands.proofs.Folded.{folding, unfolds}
 use Rattle.demands.proofs.TwelveCases.{dozen}
 
 pub demands : Demands
@@ -27,5 +29,8 @@ demands = record {
   drawings = drawings;
   codes = code;
   code-spelling = code-spelling;
+  folds = folding;
+  fold-empty = empty-folds;
+  unfolds = unfolds;
   dozen = dozen;
 }

@@ -2,14 +2,14 @@
 use mathlib.Core.Path.{_≡_, refl, ap, _∙_}
 use mathlib.Core.Bool.{Bool, true, false, cond}
 use mathlib.Core.List.{List, _++_}
-use Prim.Native.Nat.{ℕ, _+_, _*_}
+use Prim.Native.Nat.{ℕ, _+_, _*_, _/_}
 use native.Mathlib.Nat.{zero-add}
 use lib.Dec.{ltb}
 use lib.IntN.{ℤ}
 use lib.ListN.{length, drop}
 use Rattle.triple.specs.declared.refusal.Refusal.the-variants.{Room}
 use Rattle.triple.specs.Refusals.{Told, told, refused, numberOf}
-use Rattle.triple.specs.Lent.{statusOf, afterCall, Called, firstOf, secondOf, CalledBoth}
+use Rattle.triple.specs.Lent.{valued, countOf, statusOf, afterCall, Called, firstOf, secondOf, CalledBoth}
 use Rattle.triple.proofs.LentLaws.{counted-kept}
 use Rattle.grammar.specs.Texts.{linesOf}
 use Rattle.grammar.specs.Curves.{tokenBytes}
@@ -17,8 +17,10 @@ use Rattle.grammar.specs.Tests.{Verdict, fine, fault}
 use Rattle.tables.specs.Compiler.{states, compiledTo, afterCompile, tableFor, unless, accepted}
 use Rattle.tables.specs.Compiler as Compiler
 use Rattle.tables.specs.Verdicts.{verdict}
+use Rattle.fold.specs.Folds.{foldCall}
 use Rattle.capi.specs.Calls.{countValues, compileCall, faultLine, compileStatus, CompileCalled}
 use Rattle.demands.specs.Demands.{LentBuffers}
+use Rattle.demands.proofs.ToldLaws.{value-refused}
 
 table : (text : List ℕ) (table : List ℤ) → ((n : ℕ) → compiledTo text table ≡ states n → ⊥) → afterCompile text table ≡ table
 unfolding compiledTo afterCompile afterCall
@@ -29,6 +31,9 @@ table text t none = go (verdict text) (ltb (length t) (length (tableFor text))) 
     go fine true e none = rw e refl
     go fine false e none = absurd (none _ refl)
     go (fault n line) short e none = refl
+
+folds : (o r : ℕ) (positions slice : List ℕ) (n : ℕ) → valued (λ n. n / 2) (countOf (foldCall o r positions) slice) ≡ refused n → afterCall (foldCall o r positions) slice ≡ slice
+folds o r positions slice n e = counted-kept (foldCall o r positions) slice (value-refused (λ n. n / 2) (countOf (foldCall o r positions) slice) e)
 
 -- ---- calls from C
 module _ {A : Type 0} where
@@ -67,4 +72,4 @@ compiled text table x out y status c some = by-verdict (verdict text) c
     by-verdict (fault n line) d = (d .1, d .2)
 
 pub lent-buffers : LentBuffers
-lent-buffers = record { buffer = λ call buffer n. counted-kept call buffer; table = table; slice = slice; slices = slices; compiled = compiled }
+lent-buffers = record { buffer = λ call buffer n. counted-kept call buffer; folds = folds; table = table; slice = slice; slices = slices; compiled = compiled }

@@ -27,6 +27,9 @@ pub mod Sketched
 pub mod ReadBack
 -- and has one spelling
 pub mod Spelled
+-- ---- folding
+-- what a fold is, and that unfolding undoes it
+pub mod Folded
 -- ---- the dozen, and the whole
 -- the twelve worked examples
 pub mod TwelveCases

@@ -5,7 +5,7 @@ use mathlib.Core.Logic.{⊎-elim}
 use mathlib.Core.Bool.{Bool, true, false, not, cond, _||_, _&&_, true≢false}
 use mathlib.Core.Option.{Option, some, none}
 use mathlib.Core.List.{List, [], _∷_}
-use Prim.Native.Nat.{ℕ, zero, suc, _-_, _*_, _^_, _≤_}
+use Prim.Native.Nat.{ℕ, zero, suc, _-_, _*_, _/_, _^_, _≤_}
 use native.Mathlib.Omega.{arith}
 use lib.Dec.{T, leb, ltb, eqb}
 use lib.IntN.{ℤ, pos, negℤ}
@@ -18,7 +18,7 @@ use Rattle.triple.specs.Refusals.{Told, told, refused, numberOf, refuse, _>>=_}
 use Rattle.triple.specs.Triples.{goodSum, inBounds, parityOf, flavorOf}
 use Rattle.triple.specs.Orientations.{curvePlace}
 use Rattle.triple.specs.Domain.{domainOf}
-use Rattle.triple.specs.Lent.{countOf}
+use Rattle.triple.specs.Lent.{valued, countOf}
 use Rattle.turtle.specs.declared.AB.{AB}
 use Rattle.turtle.specs.Corners.{cornerSumOf, tripleOf}
 use Rattle.turtle.proofs.CornerLaws.{inverse-refused}
@@ -40,13 +40,16 @@ use Rattle.nodes.specs.Nodes.{goodNode, childCell, bounded, stepTo, childStepOf
 use Rattle.nodes.specs.NodeAnswers.{axiomNodeOf}
 use Rattle.curve.specs.Points.{near, pointOf}
 use Rattle.code.specs.Codes.{allBits, valueOf, codeLength, codeOf, spareOf, looseOf, readOf}
+use Rattle.fold.specs.Cells.{cellsIn}
+use Rattle.fold.specs.Folds.{allBelow, ascending, foldCall}
+use Rattle.fold.specs.Unfolds.{shallow, inside, ordered, unfoldCall}
 use Rattle.query.specs.declared.Query.{Query}
 use Rattle.text.specs.Decimals.{u8, u64, i32}
 use Rattle.text.specs.Patterns.{f64}
 use Rattle.query.specs.Queries.{answerOf}
 use Rattle.query.specs.Lines.{number, positionRest, cellRest, pointRest, headed, starts, queryOf}
 use Rattle.demands.specs.Demands.{isAmong, AnsweredOr, answer, refusal, CompiledOr, Refusals}
-use Rattle.demands.proofs.ToldLaws.{by-test, by-room, by-choice, by-step, by-answer}
+use Rattle.demands.proofs.ToldLaws.{by-test, by-room, by-choice, by-step, by-answer, by-value}
 
 -- ---- triples
 domain : (o r : ℕ) → AnsweredOr (1 ∷ 2 ∷ []) (domainOf o r)
@@ -200,6 +203,27 @@ reading bytes =
     by-test (ltb (length bytes) (codeLength r)) Is.Code tt λ whole. answer)
     λ x. by-test (ltb 0 (spareOf (x .resolution) bytes)) Is.Spare tt λ clear. answer
 
+-- ---- folding and unfolding
+folds : (o r : ℕ) (positions slice : List ℕ) → AnsweredOr (1 ∷ 2 ∷ 3 ∷ 25 ∷ 10 ∷ []) (valued (λ n. n / 2) (countOf (foldCall o r positions) slice))
+unfolding foldCall numberOf
+folds o r positions slice =
+    by-value (λ n. n / 2)
+    (by-room slice tt
+    (by-test (ltb 30 r) Is.Resolution tt λ k.
+    by-test (ltb 5 o) Is.Orientation tt λ h.
+    by-test (not (allBelow (4 ^ r) positions)) Is.Position tt λ l.
+    by-test (not (ascending positions)) Is.Order tt λ a. answer))
+
+unfolds : (o r : ℕ) (pairs slice : List ℕ) → AnsweredOr (1 ∷ 2 ∷ 3 ∷ 25 ∷ 10 ∷ []) (countOf (unfoldCall o r pairs) slice)
+unfolding unfoldCall numberOf
+unfolds o r pairs slice =
+    by-room slice tt
+    (by-test (ltb 30 r) Is.Resolution tt λ k.
+    by-test (not (shallow r (cellsIn pairs))) Is.Resolution tt λ s.
+    by-test (ltb 5 o) Is.Orientation tt λ h.
+    by-test (not (inside (cellsIn pairs))) Is.Position tt λ l.
+    by-test (not (ordered r pairs)) Is.Order tt λ a. answer)
+
 -- ---- lines and queries
 by-number : {A : Type 0} (read : Option A) → AnsweredOr (21 ∷ []) (number read)
 unfolding numberOf
@@ -250,6 +274,8 @@ refusals = record {
   drawing = drawing;
   writing = writing;
   reading = reading;
+  folds = folds;
+  unfolds = unfolds;
   line = line;
   query = query;
   print = print;

@@ -1,5 +1,5 @@
 -- What is told and what is refused: read through tests (`refuse`) and steps (`>>=`).
-use mathlib.Core.Path.{_≡_, refl}
+use mathlib.Core.Path.{_≡_, refl, ap}
 use mathlib.Core.Bool.{Bool, true, false, cond}
 use mathlib.Core.List.{List}
 use Prim.Native.Nat.{ℕ}
@@ -7,9 +7,9 @@ use native.Mathlib.Omega.{arith}
 use lib.Dec.{T, ltb}
 use lib.ListN.{length}
 use Rattle.triple.specs.declared.refusal.Refusal.{Refusal}
-use Rattle.triple.specs.Refusals.{Told, told, refused, numberOf, refuse, _>>=_}
 use Rattle.triple.specs.declared.refusal.Refusal.the-variants.{Room}
-use Rattle.triple.specs.Lent.{countOf}
+use Rattle.triple.specs.Refusals.{Told, told, refused, numberOf, refuse, _>>=_}
+use Rattle.triple.specs.Lent.{valued, countOf}
 use Rattle.demands.specs.Demands.{isAmong, AnsweredOr, answer, refusal}
 
 pub told-same : {A : Type 0} {a b : A} → told a ≡ told b → a ≡ b
@@ -43,3 +43,14 @@ by-choice false h k = k
 
 pub by-answer : {A : Type 0} {numbers : List ℕ} {t : Told A} {a : A} → t ≡ told a → AnsweredOr numbers t
 by-answer e = rw e answer
+
+pub by-value : {A B : Type 0} {numbers : List ℕ} (f : A → B) {t : Told A} → AnsweredOr numbers t → AnsweredOr numbers (valued f t)
+by-value f answer = answer
+by-value f (refusal h) = refusal h
+
+pub value-refused : {A B : Type 0} (f : A → B) (t : Told A) {n : ℕ} → valued f t ≡ refused n → t ≡ refused n
+value-refused f (told a) e = absurd (told-refused refl e)
+value-refused f (refused m) e = ap refused (same e)
+  where
+    same : {B : Type 0} {m n : ℕ} → _≡_ {A = Told B} (refused m) (refused n) → m ≡ n
+    same e = cc

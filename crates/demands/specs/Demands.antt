@@ -4,7 +4,7 @@ use mathlib.Core.Path.{_≡_}
 use mathlib.Core.Logic.{_↔_}
 use mathlib.Core.Bool.{Bool, true, false, _||_}
 use mathlib.Core.List.{List, [], _∷_}
-use Prim.Native.Nat.{ℕ, _+_, _-_, _*_, _/_, _^_, _<_, _≤_}
+use Prim.Native.Nat.{ℕ, _+_, _-_, _*_, _/_, _%_, _^_, _<_, _≤_}
 use lib.Dec.{T, eqb}
 use lib.IntN.{ℤ}
 use lib.Ieee.{Float}
@@ -13,7 +13,7 @@ use Rattle.triple.specs.declared.Triple.{Triple}
 use Rattle.triple.specs.Refusals.{Told, told, refused, _>>=_}
 use Rattle.triple.specs.Triples.{inBounds, parityOf, closedFlavor, flavorOf}
 use Rattle.triple.specs.Domain.{domainOf}
-use Rattle.triple.specs.Lent.{countOf, afterCall, Called, CalledBoth}
+use Rattle.triple.specs.Lent.{valued, countOf, afterCall, Called, CalledBoth}
 use Rattle.turtle.specs.declared.AB.{AB}
 use Rattle.turtle.specs.declared.walk.DrawnCell.{DrawnCell}
 use Rattle.turtle.specs.Corners.{cornerSumOf, tripleOf, HasTriple}
@@ -37,6 +37,10 @@ use Rattle.curve.specs.declared.PointCell.{PointCell}
 use Rattle.curve.specs.Points.{floor, parity, clamped, settled, ownTriple, pointOf}
 use Rattle.code.specs.declared.Reading.{Reading}
 use Rattle.code.specs.Codes.{codeOf, readOf, Bytes}
+use Rattle.fold.specs.Cells.{Cell as WholeCell, Covered, cellsIn}
+use Rattle.fold.specs.Folds.{has, ascending, foldCall}
+use Rattle.fold.specs.Unfolds.{apart, unfoldCall}
+use Rattle.fold.specs.Foldings.{cellsOf, Step, Foldings, Ended, Lone}
 use Rattle.query.specs.declared.Query.{Query}
 use Rattle.query.specs.Queries.{answerOf}
 use Rattle.query.specs.Lines.{queryOf}
@@ -95,6 +99,10 @@ pub record Refusals : Type 0 where
   pub writing : (o r s : ℕ) (buffer : List ℕ) → AnsweredOr (1 ∷ 2 ∷ 3 ∷ 10 ∷ []) (countOf (codeOf o r s) buffer)
   -- a code read: 11 where it is empty, and after 2 where it is cut short
   pub reading : (bytes : List ℕ) → AnsweredOr (11 ∷ 1 ∷ 2 ∷ 24 ∷ []) (readOf bytes)
+  -- a list of positions folded
+  pub folds : (o r : ℕ) (positions slice : List ℕ) → AnsweredOr (1 ∷ 2 ∷ 3 ∷ 25 ∷ 10 ∷ []) (valued (λ n. n / 2) (countOf (foldCall o r positions) slice))
+  -- pairs unfolded
+  pub unfolds : (o r : ℕ) (pairs slice : List ℕ) → AnsweredOr (1 ∷ 2 ∷ 3 ∷ 25 ∷ 10 ∷ []) (countOf (unfoldCall o r pairs) slice)
   -- the query of a line
   pub line : (line : List ℕ) → AnsweredOr (21 ∷ []) (queryOf line)
   -- the answer to a query: the numbers of all three kinds
@@ -104,10 +112,12 @@ pub record Refusals : Type 0 where
 
 -- ---- lent buffers: a refused call changes none
 pub record LentBuffers : Type 1 where
-  -- that of a word, of a drawing, of a code, or of a line
+  -- that of a word, of a drawing, of a code, of what is unfolded, or of a line
   pub buffer : {A : Type 0} (call : Told (List A)) (buffer : List A) (n : ℕ) → countOf call buffer ≡ refused n → afterCall call buffer ≡ buffer
   -- the table that is lent to the compiler
   pub table : (text : List ℕ) (table : List ℤ) → ((n : ℕ) → compiledTo text table ≡ states n → ⊥) → afterCompile text table ≡ table
+  -- that of a fold
+  pub folds : (o r : ℕ) (positions slice : List ℕ) (n : ℕ) → valued (λ n. n / 2) (countOf (foldCall o r positions) slice) ≡ refused n → afterCall (foldCall o r positions) slice ≡ slice
   -- the slice of a call from C, where its status is not 0
   pub slice : {A : Type 0} (call : Told (List A)) (slice after : List A) (status : ℕ) → Called call slice status after → (status ≡ 0 → ⊥) → after ≡ slice
   -- both slices of one that has two
@@ -225,6 +235,49 @@ pub record CodeSpelling : Type 0 where
   -- two whole codes have one orientation, one resolution and one position exactly when their bytes are the same
   pub one : (a b : List ℕ) (x y : Reading) → WholeCode a x → WholeCode b y → ((x .orientation ≡ y .orientation) × (x .resolution ≡ y .resolution) × (x .s ≡ y .s)) ↔ (a ≡ b)
 
+-- ---- folding: of a list of positions at resolution r that is folded to these pairs
+pub record Folding (o r : ℕ) (positions pairs : List ℕ) : Type 0 where
+  -- each number has its partner
+  pub paired : length pairs % 2 ≡ 0
+  -- where a slice has room for them, the answer is how many pairs they are, and they stand at its front
+  pub count : (slice : List ℕ) → length pairs ≤ length slice → valued (λ n. n / 2) (countOf (foldCall o r positions) slice) ≡ told (length (cellsIn pairs))
+  pub front : (slice : List ℕ) → length pairs ≤ length slice → take (length pairs) (afterCall (foldCall o r positions) slice) ≡ pairs
+  -- its other entries stay
+  pub past : (slice : List ℕ) → drop (length pairs) (afterCall (foldCall o r positions) slice) ≡ drop (length pairs) slice
+  -- the cells cover the same positions
+  pub ground : (s : ℕ) → Covered r (cellsIn pairs) s ↔ (has positions s ≡ true)
+  -- no four siblings stand among them together
+  pub siblings : Lone (cellsIn pairs)
+  -- no shorter list of whole cells covers the same ground, in whatever order, overlapping or not, and however fine: the ground is told by the
+  -- positions of any resolution from r up
+  pub shortest : (q : ℕ) → r ≤ q → (cells : List WholeCell) → ((s : ℕ) → Covered q cells s ↔ Covered q (cellsIn pairs) s) → length (cellsIn pairs) ≤ length cells
+  -- they are in curve order: each begins where the one before it ends, or behind that
+  pub order : apart r 0 (cellsIn pairs) ≡ true
+  -- unfolding them to the old resolution gives the list back
+  pub back : unfoldCall o r pairs ≡ told positions
+  -- no other pairs without four siblings unfold to it
+  pub only : (others : List ℕ) → unfoldCall o r others ≡ told positions → Lone (cellsIn others) → others ≡ pairs
+  -- folding four children into their parent, again and again, comes there from the single positions
+  pub reached : Foldings (cellsIn pairs) (cellsOf r positions)
+  -- in any order it ends there and nowhere else
+  pub ends : (last : List WholeCell) → Foldings last (cellsOf r positions) → Ended last → last ≡ cellsIn pairs
+  -- and it ends, since each step takes three cells away
+  pub shorter : (cells next : List WholeCell) → Step cells next → length cells ≡ length next + 3
+
+-- ---- unfolding: of pairs that are unfolded to these positions
+pub record Unfolding (o r : ℕ) (pairs positions : List ℕ) : Type 0 where
+  -- where a slice has room for them, the answer is how many they are, and they stand at its front
+  pub count : (slice : List ℕ) → length positions ≤ length slice → countOf (unfoldCall o r pairs) slice ≡ told (length positions)
+  pub front : (slice : List ℕ) → length positions ≤ length slice → take (length positions) (afterCall (unfoldCall o r pairs) slice) ≡ positions
+  -- its other entries stay
+  pub past : (slice : List ℕ) → drop (length positions) (afterCall (unfoldCall o r pairs) slice) ≡ drop (length positions) slice
+  -- they are those that the cells cover
+  pub ground : (s : ℕ) → Covered r (cellsIn pairs) s ↔ (has positions s ≡ true)
+  -- strictly ascending
+  pub order : ascending positions ≡ true
+  -- folding them gives the pairs back where these were folded, that is, where no four siblings stand among them
+  pub back : Lone (cellsIn pairs) → foldCall o r positions ≡ told pairs
+
 -- ---- ALL THAT WAS ASKED
 pub record Demands : Type 1 where
   -- every call on every input ends with an answer or a numbered refusal
@@ -251,5 +304,11 @@ pub record Demands : Type 1 where
   pub codes : (o r s : ℕ) (buffer : List ℕ) (n : ℕ) → countOf (codeOf o r s) buffer ≡ told n → Code o r s buffer n
   -- for every two lists of bytes
   pub code-spelling : CodeSpelling
+  -- for every list that is folded
+  pub folds : (o r : ℕ) (positions pairs : List ℕ) → foldCall o r positions ≡ told pairs → Folding o r positions pairs
+  -- the empty list folds to the empty list
+  pub fold-empty : (o r : ℕ) → o ≤ 5 → r ≤ 30 → foldCall o r [] ≡ told []
+  -- for all pairs that are unfolded
+  pub unfolds : (o r : ℕ) (pairs positions : List ℕ) → unfoldCall o r pairs ≡ told positions → Unfolding o r pairs positions
   -- the twelve worked examples
   pub dozen : Dozen

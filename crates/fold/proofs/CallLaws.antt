@@ -1,4 +1,4 @@
--- The calls: what they give has passed every test, and each undoes the other.
+-- The calls: what they give has passed every test, no shorter list covers what a fold covers, and each call undoes the other.
 use mathlib.Core.Bool.{true, not}
 use mathlib.Core.Logic.{_↔_}
 use mathlib.Core.Path.{_≡_, refl, sym, ap, subst, _∙_}

@@ -1,4 +1,4 @@
--- Folding four children into their parent, again and again and in any order, comes to the fold, and where no four siblings are left it has come there.
+-- Folding four children into their parent, again and again and in any order, comes to the fold, and where no step goes on it has come there.
 use mathlib.Core.Bool.{true}
 use mathlib.Core.Path.{_≡_, refl, sym, ap, ap₂, subst, _∙_}
 use mathlib.Core.List.{List, [], _∷_, _++_, append-assoc}
