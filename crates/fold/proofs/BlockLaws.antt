@@ -142,8 +142,8 @@ module _ (xs : List ℕ) (i : ℕ) where
   level-none h = block-is 0 (N.mod-one (getD xs i 0)) (omega arith) (rw (N.add-zero, N.add-zero))
 
   module _ {r k : ℕ} (block : blockAt xs i k ≡ true) where
-    pub level-stops : {b : Bool} → k < r → b ≡ blockAt xs i (k + 1) → not b ≡ true → Level r xs i k
-    level-stops {b} h e f = record { within = omega arith; block = block; top = λ l. rw (← add-one k) (sym e ∙ not-true b f) }
+    pub level-stops : {b : Bool} → k ≤ r → b ≡ blockAt xs i (k + 1) → not b ≡ true → Level r xs i k
+    level-stops {b} h e f = record { within = h; block = block; top = λ l. rw (← add-one k) (sym e ∙ not-true b f) }
 
     pub level-ends : k ≤ r → r ≤ k → Level r xs i k
     level-ends h l = record { within = h; block = block; top = λ j. let z : ⊥ = omega arith in absurd z }
