@@ -140,6 +140,23 @@ uint8_t hb_code_write(uint8_t orientation, uint8_t resolution, uint64_t s, uint8
  * Refusals: 11 where there is no byte, 1, 2, 11 where the code is cut short, 24 where a spare bit is set, 10. */
 uint8_t hb_code_read(const uint8_t *bytes, size_t bytes_len, uint64_t *out, size_t out_len);
 
+/* The fewest whole cells that cover a strictly ascending list of positions: four children become their
+ * parent wherever all four are there, again and again up to resolution 0.
+ * Values: resolution and position of each cell, in curve order, to pairs (twice as many values as cells,
+ * never more than twice as many as positions), and how many cells (1) to count; both or, on a refusal,
+ * neither. Refusals: 1, 2, 3 where any position is at or above 4^r, 25 where the list does not ascend, 10. */
+uint8_t hb_fold(uint8_t orientation, uint8_t resolution, const uint64_t *positions, size_t positions_len,
+                uint64_t *pairs, size_t pairs_len, uint64_t *count, size_t count_len);
+
+/* The positions at a resolution that cells cover: what hb_fold folded, back. Any numbers may stand in
+ * pairs.
+ * Values: the positions, ascending, to positions, and how many (1) to count; both or, on a refusal,
+ * neither. Refusals: 1 (also where a cell is finer than the resolution), 2, 3 where a cell's position is
+ * at or above 4^ its own resolution, 25 where a number lacks its partner or a cell does not begin after
+ * the end of the one before it, 10. */
+uint8_t hb_unfold(uint8_t orientation, uint8_t resolution, const uint64_t *pairs, size_t pairs_len,
+                  uint64_t *positions, size_t positions_len, uint64_t *count, size_t count_len);
+
 /* The answer to one query line, of at most HB_LINE_BYTES without LF, as the program wedge prints it,
  * without LF: at most HB_ANSWER_BYTES. A line that is refused has an answer too, '!' and the number.
  * Values: the answer to text, and its length (1) to out; both or, on a refusal, neither. Refusals: 10. */

@@ -7,7 +7,7 @@ use lib.Ieee.{Float}
 use Rattle.triple.specs.Refusals.{Told}
 use Rattle.triple.specs.Lent.{Called, CalledBoth}
 use Rattle.sketch.specs.Drawings.{drawCall}
-use Rattle.capi.specs.Calls.{cellCall, positionCall, nodeCall, stepCall, pointCall, cornerCall, tripleCall, writeCall, readCall, lineCall, descendCall, CompileCalled}
+use Rattle.capi.specs.Calls.{cellCall, positionCall, nodeCall, stepCall, pointCall, cornerCall, tripleCall, writeCall, readCall, foldedCall, unfoldedCall, lineCall, descendCall, CompileCalled}
 
 -- ---- whatever the call gives
 module _ {A : Type 0} (call : Told (List A)) (slice : List A) where
@@ -52,6 +52,14 @@ hb-code-write-determined o r s = called-both-once (writeCall o r s)
 
 pub hb-code-read-determined : (bytes out : List ℕ) (m n : ℕ) (x y : List ℕ) → Called (readCall bytes) out m x → Called (readCall bytes) out n y → (m ≡ n) × (x ≡ y)
 hb-code-read-determined bytes = called-once (readCall bytes)
+
+pub hb-fold-determined : (o r : ℕ) (positions pairs count : List ℕ) (m n : ℕ) (v w x y : List ℕ)
+    → CalledBoth (foldedCall o r positions) pairs count m v x → CalledBoth (foldedCall o r positions) pairs count n w y → (m ≡ n) × (v ≡ w) × (x ≡ y)
+hb-fold-determined o r positions = called-both-once (foldedCall o r positions)
+
+pub hb-unfold-determined : (o r : ℕ) (pairs positions count : List ℕ) (m n : ℕ) (v w x y : List ℕ)
+    → CalledBoth (unfoldedCall o r pairs) positions count m v x → CalledBoth (unfoldedCall o r pairs) positions count n w y → (m ≡ n) × (v ≡ w) × (x ≡ y)
+hb-unfold-determined o r pairs = called-both-once (unfoldedCall o r pairs)
 
 pub hb-line-determined : (line text out : List ℕ) (m n : ℕ) (v w x y : List ℕ) → CalledBoth (lineCall line) text out m v x → CalledBoth (lineCall line) text out n w y → (m ≡ n) × (v ≡ w) × (x ≡ y)
 hb-line-determined line = called-both-once (lineCall line)

@@ -1,7 +1,7 @@
 -- Each call's values, in the order in which it writes them.
 use mathlib.Core.Path.{_≡_}
 use mathlib.Core.List.{List, [], _∷_}
-use Prim.Native.Nat.{ℕ, _+_, _*_}
+use Prim.Native.Nat.{ℕ, _+_, _*_, _/_}
 use lib.Dec.{eqb}
 use lib.IntN.{ℤ, pos, negsuc}
 use lib.ListN.{length}
@@ -23,6 +23,8 @@ use Rattle.curve.specs.declared.PointCell.{PointCell}
 use Rattle.curve.specs.Points.{markOf, pointOf}
 use Rattle.code.specs.declared.Reading.{Reading}
 use Rattle.code.specs.Codes.{codeOf, readOf}
+use Rattle.fold.specs.Folds.{foldCall}
+use Rattle.fold.specs.Unfolds.{unfoldCall}
 use Rattle.query.specs.Lines.{answerLine}
 use Rattle.grammar.specs.Texts.{linesOf}
 use Rattle.grammar.specs.Curves.{tokenBytes}
@@ -110,6 +112,14 @@ readCall bytes = valued readingValues (readOf bytes)
 -- the code's bytes, and their count
 abbrev pub writeCall : ℕ → ℕ → ℕ → Told (List ℕ × List ℕ)
 writeCall o r s = counting (λ n. n) (codeOf o r s)
+
+-- the pairs of a fold, and how many they are
+abbrev pub foldedCall : ℕ → ℕ → List ℕ → Told (List ℕ × List ℕ)
+foldedCall o r positions = counting (λ n. n / 2) (foldCall o r positions)
+
+-- the positions that pairs cover, and how many they are
+abbrev pub unfoldedCall : ℕ → ℕ → List ℕ → Told (List ℕ × List ℕ)
+unfoldedCall o r pairs = counting (λ n. n) (unfoldCall o r pairs)
 
 -- the answer to a line as the program prints it, without LF, and its length
 abbrev pub lineCall : List ℕ → Told (List ℕ × List ℕ)
