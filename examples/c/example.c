@@ -185,6 +185,39 @@ static void compile(const char *name, const char *text, uint8_t passes, uint64_t
     printf(" %" PRIu64 " states, place %" PRIu64 ": %d, %" PRId64 " %" PRId64 " %" PRId64 "\n", states[0], s, status, out[0], out[1], out[2]);
 }
 
+/* A list of positions at resolution 3 folded, and unfolded again. */
+static void fold(const char *name, const uint64_t *positions, size_t length)
+{
+    uint64_t pairs[2 * 64], back[64], count[1] = {0};
+    uint8_t status = hb_fold(0, 3, positions, length, pairs, 128, count, 1);
+    if (status != HB_OK) {
+        printf("fold %s: ! %d\n", name, status);
+        return;
+    }
+    size_t cells = (size_t)count[0];
+    printf("fold %s:", name);
+    for (size_t k = 0; k < cells; k++)
+        printf(" %" PRIu64 "/%" PRIu64, pairs[2 * k], pairs[2 * k + 1]);
+    status = hb_unfold(0, 3, pairs, 2 * cells, back, 64, count, 1);
+    int same = count[0] == length && memcmp(back, positions, length * sizeof *back) == 0;
+    printf("; unfolded: %d, the list: %s\n", status, same ? "yes" : "no");
+}
+
+static void folds(void)
+{
+    uint64_t all[64];
+    for (uint64_t s = 0; s < 64; s++)
+        all[s] = s;
+    fold("all 64", all, 64);
+    fold("the first 21", all, 21);
+    fold("none", all, 0);
+    fold("two alike", (const uint64_t[]){4, 4}, 2);
+    fold("one too high", (const uint64_t[]){5, 4, 64}, 3);
+    uint64_t left[4] = {7, 7, 7, 7}, count[1] = {7};
+    uint8_t status = hb_unfold(0, 1, (const uint64_t[]){0, 0, 1, 2}, 4, left, 4, count, 1);
+    printf("unfold a cell inside another: ! %d, left %" PRIu64 ", count left %" PRIu64 "\n", status, left[0], count[0]);
+}
+
 /* A refused call leaves what it was lent as it was. Where a length is 0 there need be no array. */
 static void refused(void)
 {
@@ -250,6 +283,7 @@ int main(void)
     code(0, 2, 6);
     code(5, 1, 3);
     code(5, 1, 4);
+    folds();
     write_by_hand();
     descend(4, 1, 0, 3);
     descend(4, 2, 1, 6);

@@ -17,6 +17,7 @@ static const char A5[] = "A PQAB E\nB B+++PQ---A +e-\nC P---RMb+++ -e+\nM qQ+++C
 static int32_t numbers[6], table[HB_TABLE_NUMBERS], drawing[HB_DRAWING_NUMBERS];
 static int64_t sums[3];
 static uint64_t out[4];
+static uint64_t run[64] = {0, 1, 2, 3, 4, 5, 6, 7, 8, 9, 10, 11, 12, 13, 14, 15};
 static double places[2];
 static uint8_t bytes[HB_CODE_BYTES], text[HB_ANSWER_BYTES];
 
@@ -30,6 +31,8 @@ static void corner_sum(void) { hb_corner_sum(-1, 1, 0, sums, 3); }
 static void triple(void) { hb_triple(20, -16, numbers, 6); }
 static void code_write(void) { hb_code_write(5, 30, LAST, bytes, HB_CODE_BYTES, out, 4); }
 static void code_read(void) { hb_code_read(bytes, HB_CODE_BYTES, out, 4); }
+static void fold(void) { hb_fold(5, 30, run, 16, run + 16, 32, out, 4); }
+static void unfold(void) { hb_unfold(5, 30, run + 48, 2, run, 64, out, 4); }
 static void descend(void) { hb_descend(table, HB_TABLE_NUMBERS, 28, 30, 13, LAST, sums, 3); }
 static void compile(void) { hb_compile((const uint8_t *)A5, sizeof A5 - 1, table, HB_TABLE_NUMBERS, out, 4); }
 
@@ -56,6 +59,8 @@ static const struct {
     {"hb_triple", triple, 512},
     {"hb_code_write", code_write, 512},
     {"hb_code_read", code_read, 512},
+    {"hb_fold", fold, 512},
+    {"hb_unfold", unfold, 512},
     {"hb_descend", descend, 512},
 };
 

@@ -50,6 +50,26 @@ mod ffi {
             out: *mut u64,
             out_len: usize,
         ) -> u8;
+        pub fn hb_fold(
+            orientation: u8,
+            resolution: u8,
+            positions: *const u64,
+            positions_len: usize,
+            pairs: *mut u64,
+            pairs_len: usize,
+            count: *mut u64,
+            count_len: usize,
+        ) -> u8;
+        pub fn hb_unfold(
+            orientation: u8,
+            resolution: u8,
+            pairs: *const u64,
+            pairs_len: usize,
+            positions: *mut u64,
+            positions_len: usize,
+            count: *mut u64,
+            count_len: usize,
+        ) -> u8;
         pub fn hb_code_read(bytes: *const u8, bytes_len: usize, out: *mut u64, out_len: usize) -> u8;
         pub fn hb_descend(
             table: *const i32,
@@ -126,6 +146,16 @@ mod haspbarley {
         unsafe {
             ffi::hb_code_write(orientation, resolution, s, bytes.as_mut_ptr(), bytes.len(), out.as_mut_ptr(), out.len())
         }
+    }
+
+    pub fn fold(orientation: u8, resolution: u8, positions: &[u64], pairs: &mut [u64], count: &mut [u64]) -> u8 {
+        let (from, n) = (positions.as_ptr(), positions.len());
+        unsafe { ffi::hb_fold(orientation, resolution, from, n, pairs.as_mut_ptr(), pairs.len(), count.as_mut_ptr(), count.len()) }
+    }
+
+    pub fn unfold(orientation: u8, resolution: u8, pairs: &[u64], positions: &mut [u64], count: &mut [u64]) -> u8 {
+        let (to, n) = (positions.as_mut_ptr(), positions.len());
+        unsafe { ffi::hb_unfold(orientation, resolution, pairs.as_ptr(), pairs.len(), to, n, count.as_mut_ptr(), count.len()) }
     }
 
     pub fn code_read(bytes: &[u8], out: &mut [u64]) -> u8 {
@@ -242,6 +272,33 @@ fn code(orientation: u8, resolution: u8, s: u64) {
     println!();
 }
 
+/// A list of positions at resolution 3 folded, and unfolded again.
+fn fold(name: &str, positions: &[u64]) {
+    let (mut pairs, mut back, mut count) = ([0; 128], [0; 64], [0]);
+    let status = haspbarley::fold(0, 3, positions, &mut pairs, &mut count);
+    if status != 0 {
+        println!("fold {name}: ! {status}");
+        return;
+    }
+    let pairs = &pairs[..2 * count[0] as usize];
+    let cells: String = pairs.chunks(2).map(|pair| format!(" {}/{}", pair[0], pair[1])).collect();
+    let status = haspbarley::unfold(0, 3, pairs, &mut back, &mut count);
+    let same = back[..count[0] as usize] == *positions;
+    println!("fold {name}:{cells}; unfolded: {status}, the list: {}", if same { "yes" } else { "no" });
+}
+
+fn folds() {
+    let all: Vec<u64> = (0..64).collect();
+    fold("all 64", &all);
+    fold("the first 21", &all[..21]);
+    fold("none", &[]);
+    fold("two alike", &[4, 4]);
+    fold("one too high", &[5, 4, 64]);
+    let (mut left, mut count) = ([7; 4], [7]);
+    let status = haspbarley::unfold(0, 1, &[0, 0, 1, 2], &mut left, &mut count);
+    println!("unfold a cell inside another: ! {status}, left {}, count left {}", left[0], count[0]);
+}
+
 /// A table of one motif that no compiler wrote: each of its four states has itself for its children.
 fn by_hand() -> [i32; 4 * 41] {
     let places = [[0, 0], [4, 0], [4, -4], [8, -4]];
@@ -336,6 +393,7 @@ fn main() {
     code(0, 2, 6);
     code(5, 1, 3);
     code(5, 1, 4);
+    folds();
     let table = by_hand();
     descend(&table, 4, 1, 0, 3);
     descend(&table, 4, 2, 1, 6);
