@@ -72,8 +72,9 @@ fn random(all: &mut u64, random: &mut Random) {
     positions.done(all);
 }
 
-fn node(n: &CurveNode) -> Node {
-    Node { motif: n.motif as i32, flip: n.flip as i32, a: n.pos_a, b: n.pos_b }
+// The Rust's node, with what ours knows besides: the orientation and the resolution of its walk.
+fn node(o: usize, r: u8, n: &CurveNode) -> Node {
+    Node { orientation: o as i32, resolution: r as i32, motif: n.motif as i32, flip: n.flip as i32, a: n.pos_a, b: n.pos_b }
 }
 
 fn nodes(all: &mut u64, random: &mut Random) {
@@ -87,12 +88,12 @@ fn nodes(all: &mut u64, random: &mut Random) {
             let (c, next) = curve_child(&at_node, digit as usize, r as usize, ORIENTATIONS[o]);
             steps.same(
                 format_args!("child {o} {r} {at_node:?} {digit}"),
-                haspbarley::child(node(&at_node), digit, r, o as u8),
-                Ok(([c.triple.x, c.triple.y, c.triple.z, c.flavor as i32], node(&next))),
+                haspbarley::child(node(o, r - 1, &at_node), digit),
+                Ok(([c.triple.x, c.triple.y, c.triple.z, c.flavor as i32], node(o, r, &next))),
             );
             if r % 5 == 0 {
                 let (_, _, below) = triple_to_curve_node(&c.triple, r as usize, ORIENTATIONS[o]);
-                lookups.same(format_args!("node {o} {r} {:?}", c.triple), haspbarley::node(o as u8, r, at(&c.triple)), Ok(node(&below)));
+                lookups.same(format_args!("node {o} {r} {:?}", c.triple), haspbarley::node(o as u8, r, at(&c.triple)), Ok(node(o, r, &below)));
             }
             at_node = next;
         }

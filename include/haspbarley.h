@@ -101,20 +101,22 @@ uint8_t hb_position(uint8_t orientation, uint8_t resolution, int32_t x, int32_t 
  * Refusals: 23, 2, 10. */
 uint8_t hb_draw(uint8_t orientation, uint8_t resolution, int32_t *out, size_t out_len);
 
-/* The node below a cell, from which child steps go on.
- * Values: motif flip (2) to numbers, and the node's two positions (2) to places; both or, on a refusal,
- * neither. Refusals: 1, 2, 4, 5, 10. */
+/* The node below a cell, from which child steps go on. It knows its orientation and its resolution.
+ * Values: orientation resolution motif flip (4) to numbers, and the node's two positions (2) to places;
+ * both or, on a refusal, neither. Refusals: 1, 2, 4, 5, 10. */
 uint8_t hb_node(uint8_t orientation, uint8_t resolution, int32_t x, int32_t y, int32_t z, int32_t *numbers,
                 size_t numbers_len, double *places, size_t places_len);
 
-/* The child step from a node by a digit of the curve, to the child's resolution. A node is good whose
- * motif is 0 to 13, its flip 0 or 1, and each position a whole multiple of 4, at most 2^36 in size, and
- * not negative zero; the node of UV's and VU's wedge at resolution 0 is 0 0 0.0 0.0, of UW's and WU's
- * 2 0 0.0 0.0, and of VW's and WV's 1 0 0.0 0.0. What comes out as a node goes in as it is.
- * Values: x y z flavor motif flip (6) to numbers, and the two positions of the node below the child (2)
- * to places; both or, on a refusal, neither. Refusals: 1 (also at resolution 0), 2, 7, 8, 5, 10. */
-uint8_t hb_child(int32_t motif, int32_t flip, double a, double b, uint8_t digit, uint8_t resolution,
-                 uint8_t orientation, int32_t *numbers, size_t numbers_len, double *places, size_t places_len);
+/* The child step from a node at its own resolution and in its own orientation, by a digit of the curve:
+ * to a cell one resolution down, and the node below it. A node is good whose orientation is 0 to 5, its
+ * resolution 0 to 29, its motif 0 to 13, its flip 0 or 1, and each position a whole multiple of 4, at
+ * most 2^36 in size, and not negative zero. At resolution 0 the motif is 0 for UV and VU, 2 for UW and
+ * WU, 1 for VW and WV, with flip 0 at 0.0 0.0. What comes out as a node goes in as it is.
+ * Values: x y z flavor of the cell, then orientation resolution motif flip of the node (8) to numbers,
+ * and the node's two positions (2) to places; both or, on a refusal, neither.
+ * Refusals: 7, 8, 5, 10. */
+uint8_t hb_child(uint8_t orientation, uint8_t resolution, int32_t motif, int32_t flip, double a, double b,
+                 uint8_t digit, int32_t *numbers, size_t numbers_len, double *places, size_t places_len);
 
 /* The triple of the cell that the point (i, j) falls in, brought into bounds.
  * Values: x y z moved (4); moved is 1 where the point lay out of bounds, else 0.

@@ -6,7 +6,7 @@ extern "C" {
     fn hb_point(i: f64, j: f64, r: u8, out: *mut i32, len: usize) -> u8;
     fn hb_corner_sum(x: i32, y: i32, z: i32, out: *mut i64, len: usize) -> u8;
     fn hb_triple(a: i64, b: i64, out: *mut i32, len: usize) -> u8;
-    fn hb_child(motif: i32, flip: i32, a: f64, b: f64, digit: u8, r: u8, o: u8, out_i: *mut i32, len_i: usize, out_f: *mut f64, len_f: usize) -> u8;
+    fn hb_child(o: u8, r: u8, motif: i32, flip: i32, a: f64, b: f64, digit: u8, out_i: *mut i32, len_i: usize, out_f: *mut f64, len_f: usize) -> u8;
     fn hb_node(o: u8, r: u8, x: i32, y: i32, z: i32, out_i: *mut i32, len_i: usize, out_f: *mut f64, len_f: usize) -> u8;
     fn hb_line(line: *const u8, line_len: usize, text: *mut u8, text_len: usize, out: *mut u64, len: usize) -> u8;
     fn hb_descend(table: *const i32, table_len: usize, states: u64, passes: u8, token: u64, s: u64, out: *mut i64, len: usize) -> u8;
@@ -55,6 +55,8 @@ pub fn triple(a: i64, b: i64) -> Result<[i32; 3], u8> {
 
 #[derive(Clone, Copy, Debug, PartialEq)]
 pub struct Node {
+    pub orientation: i32,
+    pub resolution: i32,
     pub motif: i32,
     pub flip: i32,
     pub a: f64,
@@ -62,16 +64,16 @@ pub struct Node {
 }
 
 // x y z flavor, and the node below
-pub fn child(n: Node, digit: u8, r: u8, o: u8) -> Result<([i32; 4], Node), u8> {
-    let (mut i, mut f) = ([0i32; 6], [0f64; 2]);
-    let status = unsafe { hb_child(n.motif, n.flip, n.a, n.b, digit, r, o, i.as_mut_ptr(), 6, f.as_mut_ptr(), 2) };
-    told(status, ([i[0], i[1], i[2], i[3]], Node { motif: i[4], flip: i[5], a: f[0], b: f[1] }))
+pub fn child(n: Node, digit: u8) -> Result<([i32; 4], Node), u8> {
+    let (mut i, mut f) = ([0i32; 8], [0f64; 2]);
+    let status = unsafe { hb_child(n.orientation as u8, n.resolution as u8, n.motif, n.flip, n.a, n.b, digit, i.as_mut_ptr(), 8, f.as_mut_ptr(), 2) };
+    told(status, ([i[0], i[1], i[2], i[3]], Node { orientation: i[4], resolution: i[5], motif: i[6], flip: i[7], a: f[0], b: f[1] }))
 }
 
 pub fn node(o: u8, r: u8, t: [i32; 3]) -> Result<Node, u8> {
-    let (mut i, mut f) = ([0i32; 2], [0f64; 2]);
-    let status = unsafe { hb_node(o, r, t[0], t[1], t[2], i.as_mut_ptr(), 2, f.as_mut_ptr(), 2) };
-    told(status, Node { motif: i[0], flip: i[1], a: f[0], b: f[1] })
+    let (mut i, mut f) = ([0i32; 4], [0f64; 2]);
+    let status = unsafe { hb_node(o, r, t[0], t[1], t[2], i.as_mut_ptr(), 4, f.as_mut_ptr(), 2) };
+    told(status, Node { orientation: i[0], resolution: i[1], motif: i[2], flip: i[3], a: f[0], b: f[1] })
 }
 
 // The length of a line's answer, which is written to `text`.

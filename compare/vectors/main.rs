@@ -163,18 +163,19 @@ fn codes(random: &mut Random) {
 
 // ---- child steps
 
+// The node is the Rust's with the orientation and the resolution of its walk.
 fn asked(n: &CurveNode, digit: u8, r: u8, o: usize) -> String {
-    format!("N {} {} {:016X} {:016X} {digit} {r} {o}", n.motif, n.flip, n.pos_a.to_bits(), n.pos_b.to_bits())
+    format!("N {o} {r} {} {} {:016X} {:016X} {digit}", n.motif, n.flip, n.pos_a.to_bits(), n.pos_b.to_bits())
 }
 
-// The Rust's step, for nodes small enough that its coordinates do not wrap.
+// The Rust's step to resolution r, for nodes small enough that its coordinates do not wrap.
 fn by_node(n: &CurveNode, digit: u8, r: u8, o: usize) -> CurveNode {
     assert!(n.pos_a.abs() <= 2f64.powi(32) && n.pos_b.abs() <= 2f64.powi(32));
     let (c, next) = curve_child(n, digit as usize, r as usize, ORIENTATIONS[o]);
-    let line = asked(n, digit, r, o);
+    let line = asked(n, digit, r - 1, o);
     let t = c.triple;
     if triple_in_bounds(&t, ((1i64 << r) - 1) as i32) {
-        println!("{line}\t{} {} {} {} {} {} {:016X} {:016X}", t.x, t.y, t.z, c.flavor, next.motif, next.flip, next.pos_a.to_bits(), next.pos_b.to_bits());
+        println!("{line}\t{} {} {} {} {o} {r} {} {} {:016X} {:016X}", t.x, t.y, t.z, c.flavor, next.motif, next.flip, next.pos_a.to_bits(), next.pos_b.to_bits());
     } else {
         println!("{line}\t! 5");
     }
@@ -188,7 +189,7 @@ fn walks(random: &mut Random) {
             for r in 1..=30u8 {
                 // the four walks that keep to one digit, and one that does not
                 let digit = if walk < 4 { walk } else { random.below(4) as u8 };
-                // the same node asked for another child, at another resolution, in another orientation
+                // another child of the node, and the same frame at another resolution and in another orientation
                 if walk == 4 {
                     by_node(&node, (digit + 1) % 4, r, o);
                     by_node(&node, digit, 1 + random.below(r as u64) as u8, o);
@@ -211,30 +212,30 @@ fn bad_steps() {
     let limit = 2f64.powi(36);
     for o in 0..6 {
         for a in [limit, -limit, 2f64.powi(34)] {
-            println!("{}\t! 5", asked(&at(a, 0.0), 0, 30, o));
-            println!("{}\t! 5", asked(&at(0.0, a), 3, 30, o));
+            println!("{}\t! 5", asked(&at(a, 0.0), 0, 29, o));
+            println!("{}\t! 5", asked(&at(0.0, a), 3, 29, o));
         }
-        for r in [0, 31, 255] {
-            println!("{}\t! 1", asked(&at(0.0, 0.0), 0, r, o));
+        for r in [30, 31, 255] {
+            println!("{}\t! 7", asked(&at(0.0, 0.0), 0, r, o));
         }
         for digit in [4, 5, 255] {
-            println!("{}\t! 8", asked(&at(0.0, 0.0), digit, 1, o));
-            println!("{}\t! 8", asked(&at(limit, 0.0), digit, 30, o));
+            println!("{}\t! 8", asked(&at(0.0, 0.0), digit, 0, o));
+            println!("{}\t! 8", asked(&at(limit, 0.0), digit, 29, o));
         }
     }
     for o in [6, 7, 255] {
-        println!("{}\t! 1", asked(&at(1.0, 0.0), 9, 31, o));
-        println!("{}\t! 2", asked(&at(0.0, 0.0), 0, 1, o));
-        println!("{}\t! 2", asked(&at(1.0, 0.0), 9, 30, o));
+        println!("{}\t! 7", asked(&at(1.0, 0.0), 9, 31, o));
+        println!("{}\t! 7", asked(&at(0.0, 0.0), 0, 0, o));
+        println!("{}\t! 7", asked(&at(0.0, 0.0), 9, 29, o));
     }
     let bad = [-0.0, 1.0, -2.0, 3.0, 4.5, 0.25, 5e-324, -1e-310, 2f64.powi(36) + 4.0, -limit - 4.0, 2f64.powi(70), f64::MAX, f64::INFINITY, f64::NEG_INFINITY, f64::NAN, -f64::NAN];
     for x in bad {
-        println!("{}\t! 7", asked(&at(x, 0.0), 0, 1, 0));
-        println!("{}\t! 7", asked(&at(0.0, x), 4, 30, 5));
+        println!("{}\t! 7", asked(&at(x, 0.0), 0, 0, 0));
+        println!("{}\t! 7", asked(&at(0.0, x), 4, 29, 5));
     }
     for (motif, flip) in [(14, 0), (27, 1), (usize::MAX, 0), (0, 2), (13, 255)] {
-        println!("{}\t! 7", asked(&CurveNode { motif, flip, ..at(0.0, 0.0) }, 0, 1, 0));
-        println!("{}\t! 7", asked(&CurveNode { motif, flip, ..at(0.0, 0.0) }, 4, 30, 5));
+        println!("{}\t! 7", asked(&CurveNode { motif, flip, ..at(0.0, 0.0) }, 0, 0, 0));
+        println!("{}\t! 7", asked(&CurveNode { motif, flip, ..at(0.0, 0.0) }, 4, 29, 5));
     }
 }
 

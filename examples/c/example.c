@@ -63,29 +63,29 @@ static void draw(uint8_t orientation, uint8_t resolution)
  * reached, which is the same. */
 static void walk(const uint8_t *digits, uint8_t count)
 {
-    int32_t numbers[6] = {0};
+    int32_t numbers[8] = {0};
     double places[2] = {0.0, 0.0};
     for (uint8_t k = 0; k < count; k++) {
-        uint8_t status = hb_child(numbers[4], numbers[5], places[0], places[1], digits[k], (uint8_t)(k + 1), 0,
-                                  numbers, 6, places, 2);
+        uint8_t status = hb_child((uint8_t)numbers[4], (uint8_t)numbers[5], numbers[6], numbers[7], places[0],
+                                  places[1], digits[k], numbers, 8, places, 2);
         printf("child %d at %d:", digits[k], k + 1);
         show_i32(status, numbers, 4);
     }
-    int32_t node[2] = {0};
+    int32_t node[4] = {0};
     double at[2] = {0.0, 0.0};
     printf("node of that cell:");
-    show_i32(hb_node(0, count, numbers[0], numbers[1], numbers[2], node, 2, at, 2), node, 2);
-    int same = node[0] == numbers[4] && node[1] == numbers[5] && at[0] == places[0] && at[1] == places[1];
+    show_i32(hb_node(0, count, numbers[0], numbers[1], numbers[2], node, 4, at, 2), node, 4);
+    int same = memcmp(node, numbers + 4, sizeof node) == 0 && at[0] == places[0] && at[1] == places[1];
     printf("the walk's own: %s\n", same ? "yes" : "no");
 }
 
 /* One step from a node of the wedge itself, or of numbers that are no node's. */
-static void child(int32_t motif, int32_t flip, uint8_t resolution)
+static void child(uint8_t orientation, uint8_t resolution, int32_t motif, int32_t flip)
 {
-    int32_t numbers[6] = {0};
+    int32_t numbers[8] = {0};
     double places[2] = {0.0, 0.0};
-    printf("child of %" PRId32 " %" PRId32 " at %d:", motif, flip, resolution);
-    show_i32(hb_child(motif, flip, 0.0, 0.0, 0, resolution, 0, numbers, 6, places, 2), numbers, 6);
+    printf("child of %d %d %" PRId32 " %" PRId32 ":", orientation, resolution, motif, flip);
+    show_i32(hb_child(orientation, resolution, motif, flip, 0.0, 0.0, 0, numbers, 8, places, 2), numbers, 8);
 }
 
 static void line(const char *query)
@@ -265,11 +265,12 @@ int main(void)
     position(0, 1, 0, 2, -2);
     position(0, 1, 1, 1, 1);
     walk((const uint8_t[]){1, 2}, 2);
-    child(0, 0, 1);
-    child(-1, 0, 1);
-    child(0, -1, 1);
-    child(14, 0, 1);
-    child(-1, 0, 0);
+    child(0, 0, 0, 0);
+    child(0, 0, -1, 0);
+    child(0, 0, 0, -1);
+    child(0, 0, 14, 0);
+    child(6, 0, 0, 0);
+    child(0, 30, 0, 0);
     line("P 0 1 2");
     line("P 0 1 4");
     line("p 0 1 4");

@@ -14,7 +14,7 @@ static const uint64_t LAST = (UINT64_C(1) << 60) - 1;
 static const char A5[] = "A PQAB E\nB B+++PQ---A +e-\nC P---RMb+++ -e+\nM qQ+++C---b T\n"
                          "P PpB---B+++ S\nQ PQ---Cb+++ D\nR b+++a---qQ +++D---\n";
 
-static int32_t numbers[6], table[HB_TABLE_NUMBERS], drawing[HB_DRAWING_NUMBERS];
+static int32_t numbers[8], table[HB_TABLE_NUMBERS], drawing[HB_DRAWING_NUMBERS];
 static int64_t sums[3];
 static uint64_t out[4];
 static uint64_t run[64] = {0, 1, 2, 3, 4, 5, 6, 7, 8, 9, 10, 11, 12, 13, 14, 15};
@@ -25,7 +25,7 @@ static void cell(void) { hb_cell(5, 30, LAST, numbers, 6); }
 static void position(void) { hb_position(5, 30, 0, 1073741823, -1073741823, out, 4); }
 static void draw(void) { hb_draw(4, 6, drawing, HB_DRAWING_NUMBERS); }
 static void node(void) { hb_node(5, 30, 0, 1073741823, -1073741823, numbers, 6, places, 2); }
-static void child(void) { hb_child(0, 0, 0.0, 0.0, 2, 1, 5, numbers, 6, places, 2); }
+static void child(void) { hb_child(5, 0, 1, 0, 0.0, 0.0, 2, numbers, 8, places, 2); }
 static void point(void) { hb_point(-0.25, 1e9, 30, numbers, 6); }
 static void corner_sum(void) { hb_corner_sum(-1, 1, 0, sums, 3); }
 static void triple(void) { hb_triple(20, -16, numbers, 6); }

@@ -18,13 +18,13 @@ mod ffi {
             places_len: usize,
         ) -> u8;
         pub fn hb_child(
+            orientation: u8,
+            resolution: u8,
             motif: i32,
             flip: i32,
             a: f64,
             b: f64,
             digit: u8,
-            resolution: u8,
-            orientation: u8,
             numbers: *mut i32,
             numbers_len: usize,
             places: *mut f64,
@@ -114,16 +114,15 @@ mod haspbarley {
     }
 
     pub fn child(
-        (motif, flip, [a, b]): (i32, i32, [f64; 2]),
+        [orientation, resolution, motif, flip]: [i32; 4],
+        [a, b]: [f64; 2],
         digit: u8,
-        resolution: u8,
-        orientation: u8,
         numbers: &mut [i32],
         places: &mut [f64],
     ) -> u8 {
         let (n, p) = (numbers.len(), places.len());
         let (numbers, places) = (numbers.as_mut_ptr(), places.as_mut_ptr());
-        unsafe { ffi::hb_child(motif, flip, a, b, digit, resolution, orientation, numbers, n, places, p) }
+        unsafe { ffi::hb_child(orientation as u8, resolution as u8, motif, flip, a, b, digit, numbers, n, places, p) }
     }
 
     pub fn line(line: &[u8], text: &mut [u8], out: &mut [u64]) -> u8 {
@@ -213,13 +212,13 @@ fn draw(orientation: u8, resolution: u8) {
 /// Down the curve of UV by digits, from the node of its axiom; then the node of the cell that is
 /// reached, which is the same.
 fn walk(digits: &[u8]) {
-    let (mut numbers, mut places) = ([0; 6], [0.0; 2]);
+    let (mut numbers, mut places) = ([0; 8], [0.0; 2]);
     for (k, &digit) in digits.iter().enumerate() {
-        let from = (numbers[4], numbers[5], places);
-        let status = haspbarley::child(from, digit, k as u8 + 1, 0, &mut numbers, &mut places);
+        let node = [numbers[4], numbers[5], numbers[6], numbers[7]];
+        let status = haspbarley::child(node, places, digit, &mut numbers, &mut places);
         println!("child {digit} at {}: {}", k + 1, gives(status, &numbers[..4]));
     }
-    let (mut node, mut at) = ([0; 2], [0.0; 2]);
+    let (mut node, mut at) = ([0; 4], [0.0; 2]);
     let cell = [numbers[0], numbers[1], numbers[2]];
     let status = haspbarley::node(0, digits.len() as u8, cell, &mut node, &mut at);
     println!("node of that cell: {}", gives(status, &node));
@@ -228,10 +227,11 @@ fn walk(digits: &[u8]) {
 }
 
 /// One step from a node of the wedge itself, or of numbers that are no node's.
-fn child(motif: i32, flip: i32, resolution: u8) {
-    let (mut numbers, mut places) = ([0; 6], [0.0; 2]);
-    let status = haspbarley::child((motif, flip, [0.0; 2]), 0, resolution, 0, &mut numbers, &mut places);
-    println!("child of {motif} {flip} at {resolution}: {}", gives(status, &numbers));
+fn child(node: [i32; 4]) {
+    let (mut numbers, mut places) = ([0; 8], [0.0; 2]);
+    let status = haspbarley::child(node, [0.0; 2], 0, &mut numbers, &mut places);
+    let [orientation, resolution, motif, flip] = node;
+    println!("child of {orientation} {resolution} {motif} {flip}: {}", gives(status, &numbers));
 }
 
 fn line(query: &str) {
@@ -375,11 +375,12 @@ fn main() {
     position(0, 1, [0, 2, -2]);
     position(0, 1, [1, 1, 1]);
     walk(&[1, 2]);
-    child(0, 0, 1);
-    child(-1, 0, 1);
-    child(0, -1, 1);
-    child(14, 0, 1);
-    child(-1, 0, 0);
+    child([0, 0, 0, 0]);
+    child([0, 0, -1, 0]);
+    child([0, 0, 0, -1]);
+    child([0, 0, 14, 0]);
+    child([6, 0, 0, 0]);
+    child([0, 30, 0, 0]);
     line("P 0 1 2");
     line("P 0 1 4");
     line("p 0 1 4");

@@ -33,9 +33,9 @@ pub hb-node-determined : (o r : ℕ) (x y z : ℤ) (numbers : List ℤ) (places 
     → CalledBoth (nodeCall o r x y z) numbers places m t v → CalledBoth (nodeCall o r x y z) numbers places n u w → (m ≡ n) × (t ≡ u) × (v ≡ w)
 hb-node-determined o r x y z = called-both-once (nodeCall o r x y z)
 
-pub hb-child-determined : (motif flip : ℤ) (a b : Float) (d r o : ℕ) (numbers : List ℤ) (places : List Float) (m n : ℕ) (t u : List ℤ) (v w : List Float)
-    → CalledBoth (stepCall motif flip a b d r o) numbers places m t v → CalledBoth (stepCall motif flip a b d r o) numbers places n u w → (m ≡ n) × (t ≡ u) × (v ≡ w)
-hb-child-determined motif flip a b d r o = called-both-once (stepCall motif flip a b d r o)
+pub hb-child-determined : (o r : ℕ) (motif flip : ℤ) (a b : Float) (d : ℕ) (numbers : List ℤ) (places : List Float) (m n : ℕ) (t u : List ℤ) (v w : List Float)
+    → CalledBoth (stepCall o r motif flip a b d) numbers places m t v → CalledBoth (stepCall o r motif flip a b d) numbers places n u w → (m ≡ n) × (t ≡ u) × (v ≡ w)
+hb-child-determined o r motif flip a b d = called-both-once (stepCall o r motif flip a b d)
 
 pub hb-point-determined : (i j : Float) (r : ℕ) (out : List ℤ) (m n : ℕ) (x y : List ℤ) → Called (pointCall i j r) out m x → Called (pointCall i j r) out n y → (m ≡ n) × (x ≡ y)
 hb-point-determined i j r = called-once (pointCall i j r)

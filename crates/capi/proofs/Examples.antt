@@ -12,7 +12,7 @@ use Rattle.text.specs.Words.{wordsOf as fieldsOf}
 use Rattle.grammar.specs.Texts.{rowsOf, shaped}
 use Rattle.grammar.specs.Tests.{badShape, textTests}
 use Rattle.tables.specs.Verdicts.{verdict}
-use Rattle.nodes.specs.Nodes.{goodNode, childStepOf}
+use Rattle.nodes.specs.Nodes.{goodPosition, goodFrame, goodNode, canStep, childStepOf}
 use Rattle.triple.specs.Lent.{statusOf, afterCall, firstOf, secondOf}
 use Rattle.capi.specs.Calls.{tripleCall, stepCall, writeCall, compileCall, compileStatus}
 
@@ -40,12 +40,12 @@ write-examples = (refl, refl, refl, refl, refl, refl, refl)
 
 -- a child step of a motif or flip that is negative, refused after the resolution and the orientation and before the digit; of one that is too large the same
 pub step-examples :
-    (statusOf (firstOf (stepCall (negsuc 0) (pos 0) nan nan 4 0 6) []) [] ≡ 1)
-    × (statusOf (firstOf (stepCall (negsuc 0) (pos 0) nan nan 4 1 6) []) [] ≡ 2)
-    × (statusOf (firstOf (stepCall (negsuc 0) (pos 0) nan nan 4 1 5) []) [] ≡ 7)
-    × (statusOf (firstOf (stepCall (pos 0) (negsuc 0) nan nan 4 1 5) []) [] ≡ 7)
-    × (statusOf (firstOf (stepCall (pos 14) (pos 0) nan nan 4 1 5) []) [] ≡ 7)
-unfolding numberOf goodNode childStepOf stepCall statusOf firstOf
+    (statusOf (firstOf (stepCall 5 0 (negsuc 0) (pos 0) nan nan 4) []) [] ≡ 7)
+    × (statusOf (firstOf (stepCall 5 0 (pos 0) (negsuc 0) nan nan 4) []) [] ≡ 7)
+    × (statusOf (firstOf (stepCall 5 0 (pos 14) (pos 0) nan nan 4) []) [] ≡ 7)
+    × (statusOf (firstOf (stepCall 6 0 (pos 0) (pos 0) nan nan 4) []) [] ≡ 7)
+    × (statusOf (firstOf (stepCall 5 30 (pos 0) (pos 0) nan nan 4) []) [] ≡ 7)
+unfolding numberOf goodPosition goodFrame goodNode canStep childStepOf stepCall statusOf firstOf
 step-examples = (refl, refl, refl, refl, refl)
 
 -- the empty text: 12, line 0; `A` alone, ended by LF: 12, line 1

@@ -1,12 +1,12 @@
 -- A node of numbers that a caller hands over: what does not fit a node's field is refused as it would be.
 use mathlib.Core.Path.{_≡_, refl, sym, _∙_}
-use mathlib.Core.Bool.{Bool, true, false, _||_}
+use mathlib.Core.Bool.{Bool, true, false, not, _&&_}
 use mathlib.Core.List.{List, [], _∷_}
 use mathlib.Core.Logic.{_⊎_, inl, inr}
 use Prim.Native.Nat.{ℕ, _+_, _<_}
 use native.Mathlib.Omega.{arith}
 use borrow.Author.Tests.{ltb-true, ltb-false}
-use lib.Dec.{T, eqb, ltb}
+use lib.Dec.{T, leb, ltb}
 use lib.IntN.{ℤ, pos, negsuc, natAbs}
 use lib.Ieee.{Float}
 use lib.Signed.{ltZ, nonNeg}
@@ -14,15 +14,15 @@ use mir.Syntax.{w8, w32}
 use mir.Val.{Fits, SFits, toZ, ofZ}
 use mir.ValLaws.{toZ-ofZ}
 use Rattle.triple.specs.declared.refusal.Refusal.the-variants as Is
-use Rattle.triple.specs.Domain.{inDomain}
-use Rattle.triple.specs.Refusals.{Told, refused, numberOf, refuse}
+use Rattle.triple.specs.Orientations.{curvePlace}
+use Rattle.triple.specs.Refusals.{refused, numberOf, refuse}
+use Rattle.nodes.specs.declared.Frame.{Frame}
 use Rattle.nodes.specs.declared.Node.{Node}
-use Rattle.nodes.specs.declared.ChildStep.{ChildStep}
-use Rattle.nodes.specs.Nodes.{goodNode, childStepOf}
+use Rattle.nodes.specs.Nodes.{goodFrame, goodNode, canStep, stepTo, childStepOf}
 use Rattle.nodes.proofs.NodeLaws.{motif-high, flip-high}
 use Rattle.triple.specs.Lent.{valued, CalledBoth}
 use Rattle.capi.specs.Calls.{stepValues, stepCall}
-use Rattle.capi.specs.Inside.Given.{clipped, nodeClipped}
+use Rattle.capi.specs.Inside.Given.{clipped, frameClipped}
 use Rattle.capi.proofs.SignedLaws.{Fitting}
 
 -- ---- a number clipped, by the tests that the code makes
@@ -69,35 +69,14 @@ module _ (greatest : ℕ) where
         clip-fits = rw is (small short number (rw is at h) (rw (limit, is) at e))
 
 -- ---- a step from a clipped node
-abbrev first : {A : Type 0} → ℕ → ℕ → Told A → Told A
-first o r t = refuse (eqb r 0) Is.Resolution (inDomain o r t)
-
-module _ (o r : ℕ) (n : Node) (d : ℕ) where
-  -- a step makes the first two tests itself
-  first-again : valued stepValues (childStepOf o r n d) ≡ first o r (valued stepValues (childStepOf o r n d))
-  unfolding childStepOf
-  first-again = go (eqb r 0) (ltb 30 r) (ltb 5 o) _
+module _ (n : Node) (d : ℕ) where
+  bad-step : false ≡ goodFrame (n .frame) → valued stepValues (childStepOf n d) ≡ refused (numberOf Is.Node)
+  unfolding childStepOf canStep goodNode
+  bad-step e = rw (← e) (go (leb (n .orientation) 5 && leb (n .resolution) 30))
     where
-      first-by : {A : Type 0} → Bool → Bool → Bool → Told A → Told A
-      first-by v w x t = refuse v Is.Resolution (refuse w Is.Resolution (refuse x Is.Orientation t))
-
-      go : (v w x : Bool) (t : Told ChildStep) → valued stepValues (first-by v w x t) ≡ first-by v w x (valued stepValues (first-by v w x t))
-      go true w x t = refl
-      go false true x t = refl
-      go false false true t = refl
-      go false false false t = refl
-
-  bad-step : false ≡ goodNode n → valued stepValues (childStepOf o r n d) ≡ first o r (refused (numberOf Is.Node))
-  unfolding childStepOf
-  bad-step e = rw (sym e) (go (eqb r 0) (ltb 30 r) (ltb 5 o))
-    where
-      go : (v w x : Bool)
-          → valued stepValues (refuse v Is.Resolution (refuse w Is.Resolution (refuse x Is.Orientation (refused (numberOf Is.Node)))))
-          ≡ refuse v Is.Resolution (refuse w Is.Resolution (refuse x Is.Orientation (refused (numberOf Is.Node))))
-      go true w x = refl
-      go false true x = refl
-      go false false true = refl
-      go false false false = refl
+      go : (b : Bool) → valued stepValues (refuse (not ((b && false) && ltb (n .resolution) 30)) Is.Node (refuse (ltb 3 d) Is.Digit (stepTo n (curvePlace (n .orientation) 1 d)))) ≡ refused (numberOf Is.Node)
+      go true = refl
+      go false = refl
 
 -- ---- the node that is given, and the one that the code makes of it
 clipped-high : (greatest n : ℕ) → ltb greatest n ≡ true → greatest < clipped greatest (pos n)
@@ -113,52 +92,49 @@ unfolding clipped
 clipped-negative greatest n = omega arith
 
 -- a motif or a flip that is too large
-high : (n : Node) → (13 < n .motif) ⊎ (1 < n .flip) → false ≡ goodNode n
-high n (inl h) = motif-high n h
-high n (inr h) = go (ltb 13 (n .motif)) refl
+high : (f : Frame) → (13 < f .motif) ⊎ (1 < f .flip) → false ≡ goodFrame f
+high f (inl h) = motif-high f h
+high f (inr h) = go (ltb 13 (f .motif)) refl
   where
-    go : (b : Bool) → ltb 13 (n .motif) ≡ b → false ≡ goodNode n
-    go true e = motif-high n (ltb-true 13 (n .motif) e)
-    go false e = flip-high n (ltb-false 13 (n .motif) e) h
+    go : (b : Bool) → ltb 13 (f .motif) ≡ b → false ≡ goodFrame f
+    go true e = motif-high f (ltb-true 13 (f .motif) e)
+    go false e = flip-high f (ltb-false 13 (f .motif) e) h
 
-module _ (a b : Float) (d r o : ℕ) where
-  abbrev node : ℕ → ℕ → Node
-  node m f = record { motif = m; flip = f; «pos_a» = a; «pos_b» = b }
+module _ (o r : ℕ) (a b : Float) (d : ℕ) where
+  abbrev node : Frame → Node
+  node f = record { orientation = o; resolution = r; frame = f }
 
-  same-step : (m f : ℕ) → ltb 13 m ≡ false → ltb 1 f ≡ false → valued stepValues (childStepOf o r (nodeClipped (pos m) (pos f) a b) d) ≡ stepCall (pos m) (pos f) a b d r o
-  unfolding stepCall
-  same-step m f h k = rw (clipped-same 13 m h, clipped-same 1 f k) (first-again o r (node m f) d)
+  abbrev framed : ℕ → ℕ → Frame
+  framed m f = record { motif = m; flip = f; «pos_a» = a; «pos_b» = b }
 
   -- of two that are not negative, one is too large
-  high-step : (m f : ℕ) → (13 < m) ⊎ (1 < f) → (13 < clipped 13 (pos m)) ⊎ (1 < clipped 1 (pos f)) → valued stepValues (childStepOf o r (nodeClipped (pos m) (pos f) a b) d) ≡ stepCall (pos m) (pos f) a b d r o
+  high-step : (m f : ℕ) → (13 < m) ⊎ (1 < f) → (13 < clipped 13 (pos m)) ⊎ (1 < clipped 1 (pos f)) → valued stepValues (childStepOf (node (frameClipped (pos m) (pos f) a b)) d) ≡ stepCall o r (pos m) (pos f) a b d
   unfolding stepCall
-  high-step m f h k =
-      bad-step o r (nodeClipped (pos m) (pos f) a b) d (high _ k)
-      ∙ sym (bad-step o r (node m f) d (high _ h))
-      ∙ first-again o r (node m f) d
+  high-step m f h k = bad-step (node (frameClipped (pos m) (pos f) a b)) d (high _ k) ∙ sym (bad-step (node (framed m f)) d (high _ h))
 
-  pub step-given : (m f : ℤ) → valued stepValues (childStepOf o r (nodeClipped m f a b) d) ≡ stepCall m f a b d r o
+  pub step-given : (m f : ℤ) → valued stepValues (childStepOf (node (frameClipped m f a b)) d) ≡ stepCall o r m f a b d
   unfolding stepCall
-  step-given (negsuc m) f = bad-step o r (nodeClipped (negsuc m) f a b) d (high _ (inl (clipped-negative 13 m)))
-  step-given (pos m) (negsuc f) = bad-step o r (nodeClipped (pos m) (negsuc f) a b) d (high _ (inr (clipped-negative 1 f)))
+  step-given (negsuc m) f = bad-step (node (frameClipped (negsuc m) f a b)) d (high _ (inl (clipped-negative 13 m)))
+  step-given (pos m) (negsuc f) = bad-step (node (frameClipped (pos m) (negsuc f) a b)) d (high _ (inr (clipped-negative 1 f)))
   step-given (pos m) (pos f) = go (ltb 13 m) (ltb 1 f) refl refl
     where
-      go : (s t : Bool) → ltb 13 m ≡ s → ltb 1 f ≡ t → valued stepValues (childStepOf o r (nodeClipped (pos m) (pos f) a b) d) ≡ stepCall (pos m) (pos f) a b d r o
+      go : (s t : Bool) → ltb 13 m ≡ s → ltb 1 f ≡ t → valued stepValues (childStepOf (node (frameClipped (pos m) (pos f) a b)) d) ≡ stepCall o r (pos m) (pos f) a b d
       go true t h k = high-step m f (inl (ltb-true 13 m h)) (inl (clipped-high 13 m h))
       go false true h k = high-step m f (inr (ltb-true 1 f k)) (inr (clipped-high 1 f k))
-      go false false h k = same-step m f h k
+      go false false h k = rw (clipped-same 13 m h, clipped-same 1 f k)
 
 -- ---- the same of numbers that are held as they are read back from their bits
 module _ {x y : ℤ} (fits : Fitting w32 (x ∷ y ∷ [])) where
-  abbrev made : Float → Float → Node
-  made a b = nodeClipped (toZ w32 (ofZ w32 x)) (toZ w32 (ofZ w32 y)) a b
+  abbrev made : Float → Float → Frame
+  made a b = frameClipped (toZ w32 (ofZ w32 x)) (toZ w32 (ofZ w32 y)) a b
 
-  made-is : (a b : Float) → made a b ≡ nodeClipped x y a b
+  made-is : (a b : Float) → made a b ≡ frameClipped x y a b
   made-is a b = rw (toZ-ofZ w32 x (fits .0), toZ-ofZ w32 y (fits .1 .0))
 
-  pub node-made : {a b : Float} {m f : ℕ} → m ≡ clipped 13 (toZ w32 (ofZ w32 x)) → f ≡ clipped 1 (toZ w32 (ofZ w32 y)) → {n : Node} → n ≡ record { motif = m; flip = f; «pos_a» = a; «pos_b» = b } → n ≡ nodeClipped x y a b
-  node-made {a} {b} h k e = (rw (h, k) at e) ∙ made-is a b
+  pub frame-made : {a b : Float} {m f : ℕ} → m ≡ clipped 13 (toZ w32 (ofZ w32 x)) → f ≡ clipped 1 (toZ w32 (ofZ w32 y)) → {n : Frame} → n ≡ record { motif = m; flip = f; «pos_a» = a; «pos_b» = b } → n ≡ frameClipped x y a b
+  frame-made {a} {b} h k e = (rw (h, k) at e) ∙ made-is a b
 
-  module _ {a b : Float} {n : Node} (is-made : n ≡ made a b) (d r o : ℕ) (numbers : List ℤ) (places : List Float) {k : ℕ} {after : List ℤ} {placed : List Float} where
-    pub step-called : CalledBoth (valued stepValues (childStepOf o r n d)) numbers places k after placed → CalledBoth (stepCall x y a b d r o) numbers places k after placed
-    step-called p = rw (is-made ∙ made-is a b, step-given a b d r o x y) at p
+  module _ {a b : Float} {f : Frame} (is-made : f ≡ made a b) {o r : ℕ} {n : Node} (is-node : n ≡ record { orientation = o; resolution = r; frame = f }) (d : ℕ)
+      (numbers : List ℤ) (places : List Float) {k : ℕ} {after : List ℤ} {placed : List Float} where
+    pub step-called : CalledBoth (valued stepValues (childStepOf n d)) numbers places k after placed → CalledBoth (stepCall o r x y a b d) numbers places k after placed
+    step-called p = rw (is-node, is-made ∙ made-is a b, step-given o r a b d x y) at p

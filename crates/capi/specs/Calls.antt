@@ -2,14 +2,12 @@
 use mathlib.Core.Path.{_≡_}
 use mathlib.Core.List.{List, [], _∷_}
 use Prim.Native.Nat.{ℕ, _+_, _*_, _/_}
-use lib.Dec.{eqb}
 use lib.IntN.{ℤ, pos, negsuc}
 use lib.ListN.{length}
 use lib.Ieee.{Float}
 use Rattle.triple.specs.declared.Triple.{Triple}
 use Rattle.triple.specs.declared.refusal.Refusal.the-variants as Is
-use Rattle.triple.specs.Refusals.{Told, told, refused, numberOf, refuse, _>>=_}
-use Rattle.triple.specs.Domain.{inDomain}
+use Rattle.triple.specs.Refusals.{Told, told, refused, numberOf, _>>=_}
 use Rattle.turtle.specs.declared.AB.{AB}
 use Rattle.turtle.specs.Corners.{cornerSumOf, tripleOf}
 use Rattle.lsystem.specs.declared.Position.{Position}
@@ -45,14 +43,21 @@ pointValues p = p .triple .x ∷ p .triple .y ∷ p .triple .z ∷ pos (markOf p
 abbrev pub positionValues : Position → List ℕ
 positionValues p = p .s ∷ p .flavor ∷ []
 
--- motif flip, and the two positions
-abbrev pub nodeValues : Node → List ℤ × List Float
-nodeValues n = (pos (n .motif) ∷ pos (n .flip) ∷ [], n .«pos_a» ∷ n .«pos_b» ∷ [])
+-- orientation resolution motif flip
+abbrev pub nodeNumbers : Node → List ℤ
+nodeNumbers n = pos (n .orientation) ∷ pos (n .resolution) ∷ pos (n .frame .motif) ∷ pos (n .frame .flip) ∷ []
 
--- x y z flavor motif flip, and the two positions
+-- the two positions
+abbrev pub nodePlaces : Node → List Float
+nodePlaces n = n .frame .«pos_a» ∷ n .frame .«pos_b» ∷ []
+
+abbrev pub nodeValues : Node → List ℤ × List Float
+nodeValues n = (nodeNumbers n, nodePlaces n)
+
+-- x y z flavor of the cell and then its node's
 abbrev pub stepValues : ChildStep → List ℤ × List Float
 stepValues c =
-    (c .cell .triple .x ∷ c .cell .triple .y ∷ c .cell .triple .z ∷ pos (c .cell .flavor) ∷ pos (c .node .motif) ∷ pos (c .node .flip) ∷ [], c .node .«pos_a» ∷ c .node .«pos_b» ∷ [])
+    (c .cell .triple .x ∷ c .cell .triple .y ∷ c .cell .triple .z ∷ pos (c .cell .flavor) ∷ nodeNumbers (c .node), nodePlaces (c .node))
 
 -- a b
 abbrev pub pairValues : AB → List ℤ
@@ -80,19 +85,15 @@ abbrev pub nodeCall : ℕ → ℕ → ℤ → ℤ → ℤ → Told (List ℤ × 
 nodeCall o r x y z = valued (λ (p : Reached). nodeValues (p .node)) (nodeOf o r (record { x = x; y = y; z = z }))
 
 -- the node of the numbers that a call is given: a negative motif or flip is no node's
-abbrev pub nodeGiven : ℤ → ℤ → Float → Float → Told Node
-nodeGiven (pos m) (pos f) a b = told (record { motif = m; flip = f; «pos_a» = a; «pos_b» = b })
-nodeGiven (pos m) (negsuc f) a b = refused (numberOf Is.Node)
-nodeGiven (negsuc m) f a b = refused (numberOf Is.Node)
+abbrev pub nodeGiven : ℕ → ℕ → ℤ → ℤ → Float → Float → Told Node
+nodeGiven o r (pos m) (pos f) a b = told (record { orientation = o; resolution = r; frame = record { motif = m; flip = f; «pos_a» = a; «pos_b» = b } })
+nodeGiven o r (pos m) (negsuc f) a b = refused (numberOf Is.Node)
+nodeGiven o r (negsuc m) f a b = refused (numberOf Is.Node)
 
--- 1 and 2 are tested before the node is looked at, as in the step itself
-unfoldable pub stepCall : ℤ → ℤ → Float → Float → ℕ → ℕ → ℕ → Told (List ℤ × List Float)
-stepCall m f a b d r o =
-    refuse (eqb r 0) Is.Resolution
-    (inDomain o r
-    (do
-      n ← nodeGiven m f a b
-      valued stepValues (childStepOf o r n d)))
+unfoldable pub stepCall : ℕ → ℕ → ℤ → ℤ → Float → Float → ℕ → Told (List ℤ × List Float)
+stepCall o r m f a b d = do
+  n ← nodeGiven o r m f a b
+  valued stepValues (childStepOf n d)
 
 abbrev pub pointCall : Float → Float → ℕ → Told (List ℤ)
 pointCall i j r = valued pointValues (pointOf r i j)

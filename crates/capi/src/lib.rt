@@ -11,7 +11,7 @@ ghost use Prim.Native.Nat.{_+_, _*_, _<_, _≤_};
 ghost use lib.Dec.{ltb};
 ghost use Rattle.triple.specs.Lent.{statusOf, afterCall, firstOf, secondOf};
 ghost use Rattle.capi.specs.Calls.{cellCall, positionCall, nodeCall, stepCall, pointCall, cornerCall, tripleCall, readCall, writeCall, foldedCall, unfoldedCall, lineCall, descendCall, compileCall, compileStatus};
-ghost use Rattle.capi.specs.Inside.Given.{clipped, nodeClipped};
+ghost use Rattle.capi.specs.Inside.Given.{clipped, frameClipped};
 ghost use Rattle.triple.specs.Refusals.{numberOf};
 ghost use Rattle.sketch.specs.Drawings.{drawCall};
 use code::ReadAnswer;
@@ -23,6 +23,7 @@ use fold::unfolding::UnfoldAnswer;
 use lsystem::cell::CellAnswer;
 use lsystem::lookup::PositionAnswer;
 use nodes::ChildAnswer;
+use nodes::Frame;
 use nodes::Node;
 use nodes::ReachedAnswer;
 use put::put_cell;
@@ -89,7 +90,8 @@ pub extern "C" fn hb_position(
     }
 }
 
-// The node below a cell: motif flip to `numbers`, and its two positions to `places`.
+// The node below a cell: orientation resolution motif flip to `numbers`, and its two positions to
+// `places`.
 #[no_mangle]
 pub extern "C" fn hb_node(
     orientation: u8,
@@ -109,37 +111,39 @@ pub extern "C" fn hb_node(
     }
 }
 
-// The child step from a node: x y z flavor motif flip to `numbers`, and the two positions of the node
-// below the child to `places`.
+// The child step from a node, at its own resolution and in its own orientation: x y z flavor of the
+// child's cell and orientation resolution motif flip of the node below it to `numbers`, and that node's
+// two positions to `places`.
 #[no_mangle]
 pub extern "C" fn hb_child(
+    orientation: u8,
+    resolution: u8,
     motif: i32,
     flip: i32,
     a: f64,
     b: f64,
     digit: u8,
-    resolution: u8,
-    orientation: u8,
     numbers: &mut [i32],
     places: &mut [f64],
 ) -> u8
-    ensures { λ n. ⌜ (n ≡ statusOf (firstOf (stepCall motif flip a b digit resolution orientation) (now (places .entry))) (now (numbers .entry))) × (now (numbers .exit) ≡ afterCall (firstOf (stepCall motif flip a b digit resolution orientation) (now (places .entry))) (now (numbers .entry))) × (now (places .exit) ≡ afterCall (secondOf (stepCall motif flip a b digit resolution orientation) (now (numbers .entry))) (now (places .entry))) ⌝ }
+    ensures { λ n. ⌜ (n ≡ statusOf (firstOf (stepCall orientation resolution motif flip a b digit) (now (places .entry))) (now (numbers .entry))) × (now (numbers .exit) ≡ afterCall (firstOf (stepCall orientation resolution motif flip a b digit) (now (places .entry))) (now (numbers .entry))) × (now (places .exit) ≡ afterCall (secondOf (stepCall orientation resolution motif flip a b digit) (now (numbers .entry))) (now (places .entry))) ⌝ }
 {
-    let answer = node_given(motif, flip, a, b).child(digit, resolution, orientation);
+    let frame = frame_given(motif, flip, a, b);
+    let answer = Node::new(orientation, resolution, frame).child(digit);
     match answer {
         ChildAnswer::Child(c) => put_step(c, numbers, places),
         ChildAnswer::Refused(e) => e.number(),
     }
 }
 
-// The node of the numbers that a caller hands over. A motif or flip that no good node has need not fit
-// a node's field: one more than the greatest stands for it, and is refused as it would be.
-fn node_given(motif: i32, flip: i32, a: f64, b: f64) -> Node
-    ensures { λ n. ⌜ n ≡ nodeClipped motif flip a b ⌝ }
+// The frame of the numbers that a caller hands over. A motif or flip that no good one has need not fit
+// a frame's field: one more than the greatest stands for it, and is refused as it would be.
+fn frame_given(motif: i32, flip: i32, a: f64, b: f64) -> Frame
+    ensures { λ f. ⌜ f ≡ frameClipped motif flip a b ⌝ }
 {
-    let m = clipped(motif, Node::GREATEST_MOTIF as u8);
-    let f = clipped(flip, Node::GREATEST_FLIP);
-    Node::new(m as u64, f, a, b)
+    let m = clipped(motif, Frame::GREATEST_MOTIF as u8);
+    let f = clipped(flip, Frame::GREATEST_FLIP);
+    Frame::new(m as u64, f, a, b)
 }
 
 // A number from 0 to the greatest; one more than the greatest for every other.

@@ -84,52 +84,64 @@ pub(crate) fn put_position(p: Position, out: &mut [u64]) -> u8
     0
 }
 
-// motif flip, and the two positions
+// orientation resolution motif flip, and the two positions
 pub(crate) fn put_node(n: Node, numbers: &mut [i32], places: &mut [f64]) -> u8
-    requires { ⌜ n .motif ≤ 13 ⌝ }
+    requires { ⌜ n .frame .motif ≤ 13 ⌝ }
     ensures { λ k. ⌜ (k ≡ statusOf (firstOf (told (nodeValues n)) (now (places .entry))) (now (numbers .entry))) × (now (numbers .exit) ≡ afterCall (firstOf (told (nodeValues n)) (now (places .entry))) (now (numbers .entry))) × (now (places .exit) ≡ afterCall (secondOf (told (nodeValues n)) (now (numbers .entry))) (now (places .entry))) ⌝ }
 {
-    if numbers.len() < 2 {
+    if numbers.len() < 4 {
         return Refusal::Room.number();
     }
     if places.len() < 2 {
         return Refusal::Room.number();
     }
-    let motif = n.motif as i32;
-    let flip = n.flip as i32;
-    numbers[0] = motif;
-    numbers[1] = flip;
-    places[0] = n.pos_a;
-    places[1] = n.pos_b;
+    let frame = n.frame;
+    let orientation = n.orientation as i32;
+    let resolution = n.resolution as i32;
+    let motif = frame.motif as i32;
+    let flip = frame.flip as i32;
+    numbers[0] = orientation;
+    numbers[1] = resolution;
+    numbers[2] = motif;
+    numbers[3] = flip;
+    places[0] = frame.pos_a;
+    places[1] = frame.pos_b;
     0
 }
 
-// x y z flavor motif flip, and the two positions
+// x y z flavor, then the node's orientation resolution motif flip, and its two positions
 pub(crate) fn put_step(c: ChildStep, numbers: &mut [i32], places: &mut [f64]) -> u8
-    requires { ⌜ c .node .motif ≤ 13 ⌝ }
+    requires { ⌜ c .node .frame .motif ≤ 13 ⌝ }
     ensures { λ k. ⌜ (k ≡ statusOf (firstOf (told (stepValues c)) (now (places .entry))) (now (numbers .entry))) × (now (numbers .exit) ≡ afterCall (firstOf (told (stepValues c)) (now (places .entry))) (now (numbers .entry))) × (now (places .exit) ≡ afterCall (secondOf (told (stepValues c)) (now (numbers .entry))) (now (places .entry))) ⌝ }
 {
-    if numbers.len() < 6 {
+    if numbers.len() < 8 {
         return Refusal::Room.number();
     }
     if places.len() < 2 {
         return Refusal::Room.number();
     }
-    let t = c.cell.triple;
+    let cell = c.cell;
+    let t = cell.triple;
     let x = t.x;
     let y = t.y;
     let z = t.z;
-    let flavor = c.cell.flavor as i32;
-    let motif = c.node.motif as i32;
-    let flip = c.node.flip as i32;
+    let flavor = cell.flavor as i32;
+    let node = c.node;
+    let frame = node.frame;
+    let orientation = node.orientation as i32;
+    let resolution = node.resolution as i32;
+    let motif = frame.motif as i32;
+    let flip = frame.flip as i32;
     numbers[0] = x;
     numbers[1] = y;
     numbers[2] = z;
     numbers[3] = flavor;
-    numbers[4] = motif;
-    numbers[5] = flip;
-    places[0] = c.node.pos_a;
-    places[1] = c.node.pos_b;
+    numbers[4] = orientation;
+    numbers[5] = resolution;
+    numbers[6] = motif;
+    numbers[7] = flip;
+    places[0] = frame.pos_a;
+    places[1] = frame.pos_b;
     0
 }
 

@@ -6,7 +6,7 @@ use Rattle.demands.proofs.Refused.{refusals}
 use Rattle.demands.proofs.Kept.{lent-buffers}
 use Rattle.demands.proofs.Inverse.{corner-sums}
 use Rattle.demands.proofs.ExactlyOnce.{numbering}
-use Rattle.demands.proofs.Steps.{child-steps}
+use Rattle.demands.proofs.Steps.{child-steps, child-step}
 use Rattle.demands.proofs.Rounded.{points}
 use Rattle.demands.proofs.Drawn.{grammar}
 use Rattle.demands.proofs.Sketched.{drawing-refusals, drawings}
@@ -22,6 +22,7 @@ demands = record {
   corner-sums = corner-sums;
   numbering = numbering;
   child-steps = child-steps;
+  child-step = child-step;
   points = points;
   grammars = grammar;
   a5 = a5-states;

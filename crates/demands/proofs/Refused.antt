@@ -5,7 +5,7 @@ use mathlib.Core.Logic.{⊎-elim}
 use mathlib.Core.Bool.{Bool, true, false, not, cond, _||_, _&&_, true≢false}
 use mathlib.Core.Option.{Option, some, none}
 use mathlib.Core.List.{List, [], _∷_}
-use Prim.Native.Nat.{ℕ, zero, suc, _-_, _*_, _/_, _^_, _≤_}
+use Prim.Native.Nat.{ℕ, zero, suc, _+_, _-_, _*_, _/_, _^_, _≤_}
 use native.Mathlib.Omega.{arith}
 use lib.Dec.{T, leb, ltb, eqb}
 use lib.IntN.{ℤ, pos, negℤ}
@@ -36,7 +36,7 @@ use Rattle.lsystem.proofs.Numbering.{numbers as numbers-of}
 use Rattle.sketch.specs.Drawings.{drawCall}
 use Rattle.sketch.proofs.DrawLaws.{cells-told}
 use Rattle.nodes.specs.declared.Node.{Node}
-use Rattle.nodes.specs.Nodes.{goodNode, childCell, bounded, stepTo, childStepOf, nodeOf}
+use Rattle.nodes.specs.Nodes.{canStep, childCell, bounded, cellBelow, stepTo, childStepOf, nodeOf}
 use Rattle.nodes.specs.NodeAnswers.{axiomNodeOf}
 use Rattle.curve.specs.Points.{near, pointOf}
 use Rattle.code.specs.Codes.{allBits, valueOf, codeLength, codeOf, spareOf, looseOf, readOf}
@@ -101,20 +101,17 @@ node : (o r : ℕ) (t : Triple) → AnsweredOr (1 ∷ 2 ∷ 4 ∷ 5 ∷ []) (nod
 unfolding nodeOf
 node o r t = by-step (position o r t tt tt tt tt) λ p. answer
 
-within : (r : ℕ) (t : Told Cell) → AnsweredOr (1 ∷ 2 ∷ 7 ∷ 8 ∷ 5 ∷ []) (bounded r t)
+within : (r : ℕ) (t : Told Cell) → AnsweredOr (7 ∷ 8 ∷ 5 ∷ []) (bounded r t)
 unfolding numberOf
 within r (told c) = by-test (not (inBounds r (c .triple))) Is.Bounds tt λ b. answer
 within r (refused n) = refusal tt
 
-child : (o r : ℕ) (n : Node) (d : ℕ) → AnsweredOr (1 ∷ 2 ∷ 7 ∷ 8 ∷ 5 ∷ []) (childStepOf o r n d)
-unfolding childStepOf stepTo numberOf
-child o r n d =
-    by-test (eqb r 0) Is.Resolution tt λ z.
-    by-test (ltb 30 r) Is.Resolution tt λ k.
-    by-test (ltb 5 o) Is.Orientation tt λ h.
-    by-test (not (goodNode n)) Is.Node tt λ g.
+child : (n : Node) (d : ℕ) → AnsweredOr (7 ∷ 8 ∷ 5 ∷ []) (childStepOf n d)
+unfolding childStepOf stepTo cellBelow numberOf
+child n d =
+    by-test (not (canStep n)) Is.Node tt λ g.
     by-test (ltb 3 d) Is.Digit tt λ l.
-    by-step (within r (named o r (childCell n (curvePlace o 1 d)))) λ c. answer
+    by-step (within (n .resolution + 1) (named (n .orientation) (n .resolution + 1) (childCell (n .frame) (curvePlace (n .orientation) 1 d)))) λ c. answer
 
 -- ---- points
 point : {numbers : List ℕ} (r : ℕ) (i j : Float) → T (isAmong 1 numbers) → T (isAmong 9 numbers) → AnsweredOr numbers (pointOf r i j)

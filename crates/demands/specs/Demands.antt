@@ -30,6 +30,7 @@ use Rattle.lsystem.specs.declared.Position.{Position}
 use Rattle.lsystem.specs.Cells.{drawnCell, named, cellOf, positionOf}
 use Rattle.sketch.specs.Drawings.{drawCall, descended}
 use Rattle.nodes.specs.declared.Node.{Node}
+use Rattle.nodes.specs.declared.ChildStep.{ChildStep}
 use Rattle.nodes.specs.Nodes.{goodNode, childStepOf, nodeOf}
 use Rattle.nodes.specs.NodeAnswers.{axiomNodeOf}
 use Rattle.nodes.specs.NodeWalks.{walkedNode, lastStep}
@@ -84,7 +85,7 @@ pub record Refusals : Type 0 where
   -- the node of a triple
   pub node : (o r : ℕ) (t : Triple) → AnsweredOr (1 ∷ 2 ∷ 4 ∷ 5 ∷ []) (nodeOf o r t)
   -- a child step
-  pub child : (o r : ℕ) (n : Node) (d : ℕ) → AnsweredOr (1 ∷ 2 ∷ 7 ∷ 8 ∷ 5 ∷ []) (childStepOf o r n d)
+  pub child : (n : Node) (d : ℕ) → AnsweredOr (7 ∷ 8 ∷ 5 ∷ []) (childStepOf n d)
   -- a point's cell
   pub point : (r : ℕ) (i j : Float) → AnsweredOr (1 ∷ 9 ∷ []) (pointOf r i j)
   -- a word, reversed or expanded, written to a buffer
@@ -161,12 +162,22 @@ pub record Numbering (o r : ℕ) : Type 0 where
   -- and so is the one that comes with a triple's position
   pub flavor-back : (t : Triple) (p : Position) → positionOf o r t ≡ told p → p .flavor ≡ closedFlavor r t
 
--- ---- child steps: from the node of the orientation's own axiom, at resolutions 1 to r by the digits of s, highest first
+-- ---- child steps: from the node of the orientation's own axiom, by the digits of s, highest first
 pub record ChildSteps (o r s : ℕ) : Type 0 where
-  -- r steps arrive at a node, and it is good, as was each before it
-  pub node : (n : Node) × (walkedNode o r s ≡ told n) × (goodNode n ≡ true)
+  -- r steps arrive at a node that is good and has the walk's orientation and its own level, as had each before it
+  pub node : (n : Node) × (walkedNode o r s ≡ told n) × (goodNode n ≡ true) × (n .orientation ≡ o) × (n .resolution ≡ r)
   -- the last of them reaches exactly the cell that s names
   pub cell : 1 ≤ r → (lastStep o r s >>= λ c. told (c .cell)) ≡ cellOf o r s
+  -- the node of that cell is where the walk arrives
+  pub arrives : (t : Triple) → positionGiven o r t ≡ told s → (nodeOf o r t >>= λ p. told (p .node)) ≡ walkedNode o r s
+
+-- of a step from any node at all that is answered
+pub record ChildStepFrom (n : Node) (c : ChildStep) : Type 0 where
+  -- its cell is in bounds at the node's resolution plus one
+  pub in-bounds : inBounds (n .resolution + 1) (c .cell .triple) ≡ true
+  -- and its node goes on in the same walk: no step leads to another orientation's or resolution's numbering
+  pub orientation : c .node .orientation ≡ n .orientation
+  pub resolution : c .node .resolution ≡ n .resolution + 1
 
 -- ---- points
 pub record Points : Type 0 where
@@ -290,6 +301,8 @@ pub record Demands : Type 1 where
   pub numbering : (o r : ℕ) → o ≤ 5 → r ≤ 30 → Numbering o r
   -- there, for every position
   pub child-steps : (o r s : ℕ) → o ≤ 5 → r ≤ 30 → s < 4 ^ r → ChildSteps o r s
+  -- for every node and every digit
+  pub child-step : (n : Node) (d : ℕ) (c : ChildStep) → childStepOf n d ≡ told c → ChildStepFrom n c
   -- for every point and every resolution
   pub points : Points
   -- for every text, every table and every number of states that the compiler answers

@@ -1,4 +1,4 @@
--- Child steps: a node's children by its place, the cell of a corner sum, and the step's refusals in their order.
+-- Child steps: a frame's children by its place, the cell of a corner sum, and the step's refusals in their order.
 use mathlib.Core.Path.{_≡_, refl, sym, ap, _∙_}
 use mathlib.Core.Bool.{Bool, true, false, not, _&&_, cond}
 use Prim.Native.Nat.{ℕ, zero, suc, _+_, _*_, _/_, _%_, _^_, _≤_, _<_}
@@ -6,21 +6,18 @@ use native.Mathlib.Omega.{arith}
 use borrow.Author.Tests.{le-ltb, lt-ltb, le-leb, eq-eqb, ne-eqb, not-true, not-false}
 use lib.Dec.{eqb, leb}
 use lib.IntN.{ℤ, pos, _+ℤ_, _-ℤ_, _*ℤ_, natAbs}
-use mir.Syntax.{w32, w64}
-use mir.Val.{SFits}
+use mir.Syntax.{w8, w32, w64}
+use mir.Val.{Fits, SFits}
 use mir.ValLaws.{toZ-ofZ}
 use Rattle.whole.proofs.View.{View, rd, v-upto, v-within, fits}
 use Rattle.triple.specs.declared.Triple.{Triple}
-use Rattle.triple.specs.declared.domain.DomainAnswer.{DomainAnswer}
 use Rattle.triple.specs.declared.orientation.Recipe.{Recipe}
 use Rattle.triple.specs.declared.refusal.Refusal.{Refusal}
 use Rattle.triple.specs.declared.refusal.Refusal.the-variants as Is
 use Rattle.triple.specs.Refusals.{Told, told, refused, numberOf, refuse}
-use Rattle.triple.specs.Domain.{domainOf}
 use Rattle.triple.specs.Orientations.{axiomMotif, axiomOf, isBackward, recipeOf, placeFrom, curvePlace, movedBy, shifted}
-use Rattle.triple.specs.Answers.{saidDomain}
 use Rattle.triple.specs.Triples.{inBounds}
-use Rattle.triple.proofs.DomainLaws.{out-of-domain, in-domain, shallow, rows-most}
+use Rattle.triple.proofs.DomainLaws.{rows-most}
 use Rattle.triple.proofs.OrientationLaws.{place-below}
 use Rattle.turtle.specs.declared.letter.Flavor.{Flavor}
 use Rattle.turtle.specs.declared.corner.TripleAnswer.{TripleAnswer}
@@ -40,17 +37,18 @@ use Rattle.lsystem.proofs.CellLaws.{Spread, in-bounds-spread}
 use Rattle.a5.specs.A5.{a5}
 use Rattle.a5.specs.A5Table.{a5Table}
 use Rattle.a5.proofs.A5Entries.{bytes, tokens-are, child-state, child-offset, leaf-sum, leaf-flavor}
+use Rattle.nodes.specs.declared.Frame.{Frame}
 use Rattle.nodes.specs.declared.Node.{Node}
 use Rattle.nodes.specs.declared.ChildStep.{ChildStep}
 use Rattle.nodes.specs.declared.Wide.{Wide}
 use Rattle.nodes.specs.declared.Bounded.{Bounded}
 use Rattle.nodes.specs.declared.descent.Place.{Place}
 use Rattle.nodes.specs.declared.descent.Drawn.{Drawn}
-use Rattle.nodes.specs.Nodes.{goodNode, isFlipped, nodeStart, node, axiomNode, childCell, below, bounded, stepTo, childStepOf}
+use Rattle.nodes.specs.Nodes.{goodFrame, canStep, isFlipped, frameStart, frame, axiomFrame, axiomNode, childCell, below, nodeBelow, bounded, cellBelow, stepTo, childStepOf}
 use Rattle.nodes.specs.NodeAnswers.{axiomNodeOf, saidBounded}
-use Rattle.nodes.specs.Inside.Descents.{stepAt, down, leafFrom, placeOfNode, nodeOfPlace, namedBy, Room, Exact}
+use Rattle.nodes.specs.Inside.Descents.{stepAt, down, leafFrom, placeOfFrame, frameOfPlace, namedBy, Room, Exact}
 use Rattle.nodes.proofs.DescentLaws.{leafOf, leaf-sum-of, leaf-flavor-of, down-exact}
-use Rattle.nodes.proofs.NodeLaws.{good-of, place-room}
+use Rattle.nodes.proofs.NodeLaws.{good-of, steps-of, place-room}
 
 -- ---- the axiom's node
 -- its motif is the token of its letter
@@ -68,13 +66,13 @@ module _ (o : ℕ) where
   unfolding axiomNodeOf
   axiom-refused h = rw (lt-ltb 5 o h)
 
-  pub axiom-told : o ≤ 5 → {w : Recipe} → w ≡ recipeOf o → {n : Node} → n ≡ node (w .motif) (eqb 0 1) (ab (pos 0) (pos 0)) → told n ≡ axiomNodeOf o
-  unfolding axiomNodeOf axiomNode origin recipeOf
-  axiom-told h ew en = rw (le-ltb 5 o h, en, ew, axiom-token o)
+  pub axiom-told : o ≤ 5 → {w : Recipe} → w ≡ recipeOf o → {f : Frame} → f ≡ frame (w .motif) (eqb 0 1) (ab (pos 0) (pos 0)) → {n : Node} → n ≡ record { orientation = o; resolution = 0; frame = f } → told n ≡ axiomNodeOf o
+  unfolding axiomNodeOf axiomNode axiomFrame origin recipeOf
+  axiom-told h ew ef en = rw (le-ltb 5 o h, en, ef, ew, axiom-token o)
 
 pub ruleset axioms = (axiom-refused, axiom-told)
 
--- ---- the children of a good node, by its place
+-- ---- the children of a good frame, by its place
 state-token : (m : ℕ) (f : Bool) → stateOf m f / 2 ≡ m
 unfolding stateOf
 state-token m false = omega arith
@@ -89,32 +87,32 @@ flavor-is : (g : Flavor) (f : ℕ) → pos f ≡ flavorNumber g → f ≡ flavor
 flavor-is (Flavor.Of g) f e = cc
 flavor-is Flavor.None f e = cc
 
-module _ (n : Node) (g : goodNode n ≡ true) (d : ℕ) (l : d < 4) where
+module _ (n : Frame) (g : goodFrame n ≡ true) (d : ℕ) (l : d < 4) where
   listed : n .motif < 14
   listed = omega (arith, good-of n g .motif)
 
-  -- the node below is the place one level down
-  pub below-down : nodeOfPlace (down (placeOfNode n) d) ≡ below n d
+  -- the frame below is the place one level down
+  pub below-down : frameOfPlace (down (placeOfFrame n) d) ≡ below n d
   unfolding below down stepAt
   below-down =
       let f = isFlipped n in
       let k = stateOf (n .motif) f in
       let c = child a5 (n .motif) d in
       let state : natAbs (childAt a5Table k d) ≡ stateOf (c .token) (flipped f (c .flip)) = ap natAbs (child-state (n .motif) f d listed l) in
-      let start = twice-place (nodeStart n) (offsetAt a5Table k d) ∙ ap (λ o. nodeStart n ⊕ nodeStart n ⊕ o) (child-offset (n .motif) f d listed l) in
-      ap (λ j. node (j / 2) (eqb (j % 2) 1) (ab (pos 2 *ℤ nodeStart n .a +ℤ offsetAt a5Table k d .a) (pos 2 *ℤ nodeStart n .b +ℤ offsetAt a5Table k d .b))) state
-      ∙ rw (state-token, state-flip) (ap (node (c .token) (flipped f (c .flip))) start)
+      let start = twice-place (frameStart n) (offsetAt a5Table k d) ∙ ap (λ o. frameStart n ⊕ frameStart n ⊕ o) (child-offset (n .motif) f d listed l) in
+      ap (λ j. frame (j / 2) (eqb (j % 2) 1) (ab (pos 2 *ℤ frameStart n .a +ℤ offsetAt a5Table k d .a) (pos 2 *ℤ frameStart n .b +ℤ offsetAt a5Table k d .b))) state
+      ∙ rw (state-token, state-flip) (ap (frame (c .token) (flipped f (c .flip))) start)
 
-  -- the leaf where the node is, as the table has it
-  pub leaf-cell : drawnLeaf (childCell n d) ≡ leafOf (placeOfNode n) d
+  -- the leaf where the frame is, as the table has it
+  pub leaf-cell : drawnLeaf (childCell n d) ≡ leafOf (placeOfFrame n) d
   unfolding childCell leafOf
   leaf-cell =
       let sum = leaf-sum (n .motif) (isFlipped n) d listed l in
       let flavor = leaf-flavor (n .motif) (isFlipped n) d listed l in
-      λ i. record { sum = thrice (nodeStart n) ⊕ sym sum i; flavor = sym flavor i }
+      λ i. record { sum = thrice (frameStart n) ⊕ sym sum i; flavor = sym flavor i }
 
   -- and as the code has it
-  module _ {p : Place} (ep : p ≡ placeOfNode n) {c : Drawn} (ec : c ≡ leafFrom p d) where
+  module _ {p : Place} (ep : p ≡ placeOfFrame n) {c : Drawn} (ec : c ≡ leafFrom p d) where
     drawn-sum : c .sum ≡ childCell n d .sum
     drawn-sum =
         let r = place-room n g ep in
@@ -195,55 +193,61 @@ pub ruleset drawn-cells = (cell-far, cell-out, cell-fits-x, cell-fits-y, cell-fi
 pub below-exact : {p : Place} {d : ℕ} → Room (2 ^ 37) 0 p → d < 4 → {q : Place} → q ≡ down p d → Exact q
 below-exact {p} {d} r l e = rw e (down-exact p d r l)
 
-module _ (o r : ℕ) (n : Node) (d : ℕ) (g : goodNode n ≡ true) (l : d < 4) {w : Recipe} (ew : w ≡ recipeOf o) {p : Place} (ep : p ≡ placeOfNode n)
-    {c : Drawn} (ec : c ≡ leafFrom p d) (f : Bounded) (ef : saidBounded f ≡ bounded r (namedBy (w .shifted) r c)) where
-  named-is : saidBounded f ≡ bounded r (named o r (childCell n d))
-  unfolding named namedBy shifted recipeOf
-  named-is = ef ∙ rw (drawn-sum n g d l ep ec, drawn-flavor n g d l ep ec, ew)
+module _ (n : Node) (d : ℕ) (g : canStep n ≡ true) (l : d < 4) where
+  good : goodFrame (n .frame) ≡ true
+  good = steps-of n g .good
 
-  pub step-out : f ≡ Bounded.Out → refused (numberOf Is.Bounds) ≡ stepTo o r n d
+  pub next-fits : Fits w8 (n .resolution + 1)
+  next-fits = record { fits = omega (arith, steps-of n g .resolution) }
+
+  pub next-most : n .resolution + 1 ≤ 30
+  next-most = omega (arith, steps-of n g .resolution)
+
+  pub frame-good : {f : Frame} → f ≡ n .frame → goodFrame f ≡ true
+  frame-good e = rw e good
+
+  module _ {p : Place} (ep : p ≡ placeOfFrame (n .frame)) where
+    pub cell-below : {w : Recipe} → w ≡ recipeOf (n .orientation) → {c : Drawn} → c ≡ leafFrom p d → {x : Told Cell} → x ≡ bounded (n .resolution + 1) (namedBy (w .shifted) (n .resolution + 1) c) → x ≡ cellBelow n d
+    unfolding cellBelow named namedBy shifted recipeOf
+    cell-below ew ec e = e ∙ rw (drawn-sum (n .frame) good d l ep ec, drawn-flavor (n .frame) good d l ep ec, ew)
+
+    pub node-below : {q : Place} → q ≡ down p d → {b : Frame} → b ≡ frameOfPlace q → {t : Node} → t ≡ record { orientation = n .orientation; resolution = n .resolution + 1; frame = b } → t ≡ nodeBelow n d
+    node-below eq eb et = et ∙ rw (eb ∙ ap frameOfPlace (eq ∙ ap (λ p. down p d) ep) ∙ below-down (n .frame) good d l)
+
+pub ruleset below-laws = (place-room, below-exact, next-fits, next-most, frame-good, cell-below, node-below)
+
+module _ (n : Node) (d : ℕ) (f : Bounded) (ef : saidBounded f ≡ cellBelow n d) where
+  pub step-out : f ≡ Bounded.Out → refused (numberOf Is.Bounds) ≡ stepTo n d
   unfolding stepTo
-  step-out k = rw (← (ap saidBounded (sym k) ∙ named-is))
+  step-out k = rw (← (ap saidBounded (sym k) ∙ ef))
 
-  pub step-told : {v : Cell} → f ≡ Bounded.In v → {q : Place} → q ≡ down p d → {t : Node} → t ≡ nodeOfPlace q → told (record { cell = v; node = t }) ≡ stepTo o r n d
+  pub step-told : {v : Cell} → f ≡ Bounded.In v → {t : Node} → t ≡ nodeBelow n d → told (record { cell = v; node = t }) ≡ stepTo n d
   unfolding stepTo
-  step-told k eq et =
-      let node-is = et ∙ ap nodeOfPlace (eq ∙ ap (λ p. down p d) ep) ∙ below-down n g d l in
-      rw (← (ap saidBounded (sym k) ∙ named-is), node-is)
+  step-told k et = rw (← (ap saidBounded (sym k) ∙ ef), et)
 
-pub ruleset stepped = (place-room, below-exact, step-out, step-told)
+pub ruleset stepped = (step-out, step-told)
 
 -- ---- the step by the digit d, case by case
-pub good-told : (n : Node) {g : Bool} → g ≡ goodNode n → not g ≡ false → goodNode n ≡ true
-good-told n {g} e h = sym e ∙ not-false g h
-
 pub place-of-four : (w : Recipe) (d : ℕ) {j : ℕ} → d ≤ 3 → j ≡ placeFrom (w .backward) 4 d → j < 4
 place-of-four w d h e = rw e (place-below (w .backward) 4 d (omega arith))
 
-module _ (o r : ℕ) (n : Node) (d : ℕ) where
-  pub child-nowhere : r ≡ 0 → refused (numberOf Is.Resolution) ≡ childStepOf o r n d
+module _ (n : Node) (d : ℕ) {g : Bool} (eg : g ≡ canStep n) where
+  pub child-bad : not g ≡ true → refused (numberOf Is.Node) ≡ childStepOf n d
   unfolding childStepOf
-  child-nowhere e = rw e
+  child-bad b = rw (← eg, not-true g b)
 
-  module _ (z : r ≡ 0 → ⊥) {a : DomainAnswer} (ea : saidDomain a ≡ domainOf o r) where
-    pub child-outside : {e : Refusal} → a ≡ DomainAnswer.Refused e → refused (numberOf e) ≡ childStepOf o r n d
+  module _ (b : not g ≡ false) where
+    pub can-told : canStep n ≡ true
+    can-told = sym eg ∙ not-false g b
+
+    pub child-no-digit : 3 < d → refused (numberOf Is.Digit) ≡ childStepOf n d
     unfolding childStepOf
-    child-outside m = rw (ne-eqb r 0 z) (out-of-domain o r a ea _ m)
+    child-no-digit l = rw (can-told, lt-ltb 3 d l)
 
-    module _ (m : a ≡ DomainAnswer.In) {g : Bool} (eg : g ≡ goodNode n) where
-      pub child-bad : not g ≡ true → refused (numberOf Is.Node) ≡ childStepOf o r n d
-      unfolding childStepOf
-      child-bad b = rw (ne-eqb r 0 z, ← eg, not-true g b) (in-domain o r a ea m _)
+    pub child-answered : d ≤ 3 → {w : Recipe} → w ≡ recipeOf (n .orientation) → {j : ℕ} → j ≡ placeFrom (w .backward) 4 d → {x : Told ChildStep} → x ≡ stepTo n j → x ≡ childStepOf n d
+    unfolding childStepOf curvePlace recipeOf
+    child-answered l ew ej e =
+        let place-is : _ ≡ placeFrom (isBackward (n .orientation)) 4 d = ej ∙ ap (λ (w : Recipe). placeFrom (w .backward) 4 d) ew in
+        rw (can-told, le-ltb 3 d l) (e ∙ ap (stepTo n) place-is)
 
-      module _ (b : not g ≡ false) where
-        pub child-no-digit : 3 < d → refused (numberOf Is.Digit) ≡ childStepOf o r n d
-        unfolding childStepOf
-        child-no-digit l = rw (ne-eqb r 0 z, good-told n eg b, lt-ltb 3 d l) (in-domain o r a ea m _)
-
-        pub child-answered : d ≤ 3 → {w : Recipe} → w ≡ recipeOf o → {j : ℕ} → j ≡ placeFrom (w .backward) 4 d → {x : Told ChildStep} → x ≡ stepTo o r n j → x ≡ childStepOf o r n d
-        unfolding childStepOf curvePlace recipeOf
-        child-answered l ew ej e =
-            let place-is : _ ≡ placeFrom (isBackward o) 4 d = ej ∙ ap (λ (w : Recipe). placeFrom (w .backward) 4 d) ew in
-            rw (ne-eqb r 0 z, good-told n eg b, le-ltb 3 d l) (e ∙ ap (stepTo o r n) place-is ∙ in-domain o r a ea m _)
-
-pub ruleset steps = (shallow, good-told, place-of-four, child-nowhere, child-outside, child-bad, child-no-digit, child-answered)
+pub ruleset steps = (place-of-four, child-bad, can-told, child-no-digit, child-answered)

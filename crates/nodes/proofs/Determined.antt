@@ -5,11 +5,12 @@ use Prim.Native.Nat.{ℕ}
 use lib.Ieee.{Float}
 use Rattle.triple.specs.declared.Triple.{Triple}
 use Rattle.triple.proofs.Determined.{one-to-one, determined, numbered, answerOf}
+use Rattle.nodes.specs.declared.Frame.{Frame}
 use Rattle.nodes.specs.declared.Node.{Node}
 use Rattle.nodes.specs.declared.NodeAnswer.{NodeAnswer}
 use Rattle.nodes.specs.declared.ReachedAnswer.{ReachedAnswer}
 use Rattle.nodes.specs.declared.ChildAnswer.{ChildAnswer}
-use Rattle.nodes.specs.Nodes.{goodNode, childStepOf, nodeOf}
+use Rattle.nodes.specs.Nodes.{goodFrame, goodNode, canStep, childStepOf, nodeOf}
 use Rattle.nodes.specs.NodeAnswers.{axiomNodeOf, saidNode, saidReached, saidChild}
 
 -- ---- the answers
@@ -26,8 +27,17 @@ child-back (ChildAnswer.Child c) = refl
 child-back (ChildAnswer.Refused e) = ap ChildAnswer.Refused (numbered e)
 
 -- ---- the operations
-pub new-determined : (motif flip : ℕ) (a b : Float) (m n : Node) → m ≡ record { motif = motif; flip = flip; «pos_a» = a; «pos_b» = b } → n ≡ record { motif = motif; flip = flip; «pos_a» = a; «pos_b» = b } → m ≡ n
-new-determined motif flip a b m n p q = p ∙ sym q
+pub frame-new-determined : (motif flip : ℕ) (a b : Float) (m n : Frame) → m ≡ record { motif = motif; flip = flip; «pos_a» = a; «pos_b» = b } → n ≡ record { motif = motif; flip = flip; «pos_a» = a; «pos_b» = b } → m ≡ n
+frame-new-determined motif flip a b m n p q = p ∙ sym q
+
+pub frame-is-good-determined : (f : Frame) (a b : Bool) → a ≡ goodFrame f → b ≡ goodFrame f → a ≡ b
+frame-is-good-determined f a b p q = p ∙ sym q
+
+pub new-determined : (o r : ℕ) (f : Frame) (m n : Node) → m ≡ record { orientation = o; resolution = r; frame = f } → n ≡ record { orientation = o; resolution = r; frame = f } → m ≡ n
+new-determined o r f m n p q = p ∙ sym q
+
+pub can-step-determined : (n : Node) (a b : Bool) → a ≡ canStep n → b ≡ canStep n → a ≡ b
+can-step-determined n a b p q = p ∙ sym q
 
 pub is-good-determined : (n : Node) (a b : Bool) → a ≡ goodNode n → b ≡ goodNode n → a ≡ b
 is-good-determined n a b p q = p ∙ sym q
@@ -38,5 +48,5 @@ axiom-node-determined o = determined saidNode (one-to-one saidNode (answerOf Nod
 pub node-determined : (o r : ℕ) (t : Triple) (a b : ReachedAnswer) → saidReached a ≡ nodeOf o r t → saidReached b ≡ nodeOf o r t → a ≡ b
 node-determined o r t = determined saidReached (one-to-one saidReached (answerOf ReachedAnswer.Reached ReachedAnswer.Refused) reached-back)
 
-pub child-determined : (o r : ℕ) (n : Node) (d : ℕ) (a b : ChildAnswer) → saidChild a ≡ childStepOf o r n d → saidChild b ≡ childStepOf o r n d → a ≡ b
-child-determined o r n d = determined saidChild (one-to-one saidChild (answerOf ChildAnswer.Child ChildAnswer.Refused) child-back)
+pub child-determined : (n : Node) (d : ℕ) (a b : ChildAnswer) → saidChild a ≡ childStepOf n d → saidChild b ≡ childStepOf n d → a ≡ b
+child-determined n d = determined saidChild (one-to-one saidChild (answerOf ChildAnswer.Child ChildAnswer.Refused) child-back)

@@ -6,14 +6,16 @@ pub mod DescentLaws
 -- ---- nodes
 -- which floats are good positions
 pub mod NodePositions
--- which nodes are good, and their places
+-- which frames and nodes are good, and their places
 pub mod NodeLaws
 -- the child step, case by case
 pub mod ChildLaws
 -- r steps reach the cell that s names
 pub mod NodeWalk
--- the node below a cell, in one descent
+-- the frame below a cell, in one descent
 pub mod NodeBelow
+-- a step that is answered stays in its walk
+pub mod AnsweredSteps
 -- the motif of every node that is answered
 pub mod NodeMotifs
 -- ---- all operations

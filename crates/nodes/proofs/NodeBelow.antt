@@ -24,12 +24,13 @@ use Rattle.lsystem.specs.Answers.{saidPosition}
 use Rattle.lsystem.specs.Cells.{positionOf}
 use Rattle.lsystem.proofs.CellCode.{axiom-state-small}
 use Rattle.lsystem.proofs.Numbering.{numbers}
+use Rattle.nodes.specs.declared.Frame.{Frame}
 use Rattle.nodes.specs.declared.Node.{Node}
 use Rattle.nodes.specs.declared.descent.Place.{Place}
-use Rattle.nodes.specs.Nodes.{nodeAt, nodeOf}
-use Rattle.nodes.specs.Inside.Descents.{descended, atOrigin, nodeOfPlace, Exact}
+use Rattle.nodes.specs.Nodes.{frameAt, nodeAt, nodeOf}
+use Rattle.nodes.specs.Inside.Descents.{descended, atOrigin, frameOfPlace, Exact}
 use Rattle.nodes.proofs.DescentLaws.{room-wider, room-exact, end-room}
-use Rattle.nodes.proofs.NodeWalk.{node-is}
+use Rattle.nodes.proofs.NodeWalk.{frame-is}
 
 -- ---- a position that is told
 pub record Asked (o r s : ℕ) : Type 0 where
@@ -68,13 +69,13 @@ module _ (o r : ℕ) (t : Triple) (a : PositionAnswer) (ea : saidPosition a ≡ 
     pub asked-position : p .s < 4 ^ r
     asked-position = asked .position
 
-    pub reached-told : {n : Node} → n ≡ nodeAt o r (p .s) → told (record { position = p; node = n }) ≡ nodeOf o r t
-    unfolding nodeOf
-    reached-told en = rw (sym ea ∙ ap saidPosition m, en)
+    pub reached-told : {f : Frame} → f ≡ frameAt o r (p .s) → {n : Node} → n ≡ record { orientation = o; resolution = r; frame = f } → told (record { position = p; node = n }) ≡ nodeOf o r t
+    unfolding nodeOf nodeAt
+    reached-told ef en = rw (sym ea ∙ ap saidPosition m, en, ef)
 
 pub ruleset reaching = (asked-resolution, asked-position, reached-told, reached-refused)
 
--- ---- the node below the cell that s names
+-- ---- the frame below the cell that s names
 module _ (o r s : ℕ) (k : r ≤ 30) (l : s < 4 ^ r) {w : Recipe} (ew : w ≡ recipeOf o) where
   pub start-small : 2 * w .motif < 28
   unfolding recipeOf
@@ -93,12 +94,12 @@ module _ (o r s : ℕ) (k : r ≤ 30) (l : s < 4 ^ r) {w : Recipe} (ew : w ≡ r
       pub end-exact : Exact p
       end-exact = rw ep (room-exact _ (room-wider _ 0 (end-room (2 * w .motif) r (4 * place) start-small k)))
 
-      pub below-is : {n : Node} → n ≡ nodeOfPlace p → n ≡ nodeAt o r s
+      pub below-is : {n : Frame} → n ≡ frameOfPlace p → n ≡ frameAt o r s
       unfolding recipeOf
       below-is en =
           let fours : 4 * place / 4 ≡ curvePlace o r s = sym (omega arith) ∙ on-curve in
           en
-          ∙ ap nodeOfPlace (ep ∙ ap (λ (w : Recipe). descended r (4 * place) (atOrigin (2 * w .motif))) ew)
-          ∙ sym (node-is o r s (4 * place) k l fours)
+          ∙ ap frameOfPlace (ep ∙ ap (λ (w : Recipe). descended r (4 * place) (atOrigin (2 * w .motif))) ew)
+          ∙ sym (frame-is o r s (4 * place) k l fours)
 
 pub ruleset arriving = (motif-fits, start-small, fours-fit, end-exact, below-is)

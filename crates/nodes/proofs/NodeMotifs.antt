@@ -4,12 +4,11 @@ use mathlib.Core.Bool.{Bool, true, false, not}
 use Prim.Native.Nat.{ℕ, _<_, _≤_}
 use native.Mathlib.Omega.{arith}
 use borrow.Author.Tests.{ltb-false, not-false}
-use lib.Dec.{eqb, ltb}
+use lib.Dec.{ltb}
 use lib.IntN.{natAbs}
 use Rattle.triple.specs.declared.Triple.{Triple}
 use Rattle.triple.specs.declared.refusal.Refusal.the-variants as Is
 use Rattle.triple.specs.Refusals.{Told, told, refused, _>>=_}
-use Rattle.triple.specs.Domain.{greatestResolution, greatestOrientation}
 use Rattle.triple.specs.Orientations.{curvePlace}
 use Rattle.triple.proofs.RefusalLaws.{never, passed}
 use Rattle.triple.proofs.OrientationLaws.{place-small}
@@ -23,13 +22,14 @@ use Rattle.lsystem.specs.Cells.{named, positionOf}
 use Rattle.a5.specs.A5.{a5}
 use Rattle.a5.specs.A5Table.{a5Table}
 use Rattle.a5.proofs.A5Entries.{child-state}
+use Rattle.nodes.specs.declared.Frame.{Frame}
 use Rattle.nodes.specs.declared.Node.{Node}
 use Rattle.nodes.specs.declared.ChildStep.{ChildStep}
 use Rattle.nodes.specs.declared.Reached.{Reached}
-use Rattle.nodes.specs.Nodes.{goodNode, isFlipped, node, childCell, below, bounded, stepTo, childStepOf, nodeAt, nodeOf}
+use Rattle.nodes.specs.Nodes.{goodFrame, canStep, isFlipped, frame, below, nodeBelow, cellBelow, stepTo, childStepOf, nodeAt, nodeOf}
 use Rattle.nodes.proofs.DescentLaws.{entries}
-use Rattle.nodes.proofs.NodeLaws.{good-of}
-use Rattle.nodes.proofs.NodeWalk.{node-good}
+use Rattle.nodes.proofs.NodeLaws.{good-of, steps-of}
+use Rattle.nodes.proofs.NodeWalk.{frame-good}
 use Rattle.nodes.proofs.NodeBelow.{told-asked}
 
 state-small : (m : ℕ) (f : Bool) → m < 14 → stateOf m f < 28
@@ -43,33 +43,35 @@ token-small m f d h l =
     let c : natAbs (childAt a5Table (stateOf m f) d) ≡ stateOf (child a5 m d .token) (flipped f (child a5 m d .flip)) = ap natAbs (child-state m f d h l) in
     omega (arith, c, entries (stateOf m f) d (state-small m f h) l .0)
 
-below-motif : (n : Node) (d : ℕ) → goodNode n ≡ true → d < 4 → below n d .motif ≤ 13
-unfolding below node
+below-motif : (n : Frame) (d : ℕ) → goodFrame n ≡ true → d < 4 → below n d .motif ≤ 13
+unfolding below frame
 below-motif n d g l = omega (arith, token-small (n .motif) (isFlipped n) d (omega (arith, good-of n g .motif)) l)
 
-pub child-motif : (o r : ℕ) (n : Node) (d : ℕ) (c : ChildStep) → childStepOf o r n d ≡ told c → c .node .motif ≤ 13
+pub child-motif : (n : Node) (d : ℕ) (c : ChildStep) → childStepOf n d ≡ told c → c .node .frame .motif ≤ 13
 unfolding childStepOf stepTo
-child-motif o r n d c e =
-    let some = passed (eqb r 0) Is.Resolution e in
-    let deep = passed (ltb greatestResolution r) Is.Resolution (some .1) in
-    let unoriented = passed (ltb greatestOrientation o) Is.Orientation (deep .1) in
-    let bad = passed (not (goodNode n)) Is.Node (unoriented .1) in
+child-motif n d c e =
+    let o = n .orientation in
+    let bad = passed (not (canStep n)) Is.Node e in
     let high = passed (ltb 3 d) Is.Digit (bad .1) in
-    found (bounded r (named o r (childCell n (curvePlace o 1 d)))) (below-motif n _ (not-false (goodNode n) (bad .0)) (place-small o 1 d (omega (arith, ltb-false 3 d (high .0))))) (high .1)
+    let good = steps-of n (not-false (canStep n) (bad .0)) .good in
+    found (cellBelow n (curvePlace o 1 d)) (below-motif (n .frame) _ good (place-small o 1 d (omega (arith, ltb-false 3 d (high .0))))) (high .1)
   where
-    found : (b : Told Cell) → below n (curvePlace o 1 d) .motif ≤ 13 → (b >>= λ k. told (record { cell = k; node = below n (curvePlace o 1 d) })) ≡ told c → c .node .motif ≤ 13
+    made : Cell → ChildStep
+    made k = record { cell = k; node = nodeBelow n (curvePlace (n .orientation) 1 d) }
+
+    found : (b : Told Cell) → nodeBelow n (curvePlace (n .orientation) 1 d) .frame .motif ≤ 13 → (b >>= λ k. told (made k)) ≡ told c → c .node .frame .motif ≤ 13
     found (refused k) h e = never e
     found (told k) h e =
-        let q : c ≡ record { cell = k; node = below n (curvePlace o 1 d) } = cc in
-        subst (λ (c : ChildStep). c .node .motif ≤ 13) (sym q) h
+        let q : c ≡ made k = cc in
+        subst (λ (c : ChildStep). c .node .frame .motif ≤ 13) (sym q) h
 
-pub reached-motif : (o r : ℕ) (t : Triple) (p : Reached) → nodeOf o r t ≡ told p → p .node .motif ≤ 13
-unfolding nodeOf
+pub reached-motif : (o r : ℕ) (t : Triple) (p : Reached) → nodeOf o r t ≡ told p → p .node .frame .motif ≤ 13
+unfolding nodeOf nodeAt
 reached-motif o r t p e = go (positionOf o r t) refl e
   where
-    go : (a : Told Position) → positionOf o r t ≡ a → (a >>= λ q. told (record { position = q; node = nodeAt o r (q .s) })) ≡ told p → p .node .motif ≤ 13
+    go : (a : Told Position) → positionOf o r t ≡ a → (a >>= λ q. told (record { position = q; node = nodeAt o r (q .s) })) ≡ told p → p .node .frame .motif ≤ 13
     go (refused k) ea e = never e
     go (told q) ea e =
         let z : p ≡ record { position = q; node = nodeAt o r (q .s) } = cc in
         let a = told-asked o r t q ea in
-        subst (λ (p : Reached). p .node .motif ≤ 13) (sym z) (good-of _ (node-good o r (q .s) (a .resolution) (a .position)) .motif)
+        subst (λ (p : Reached). p .node .frame .motif ≤ 13) (sym z) (good-of _ (frame-good o r (q .s) (a .resolution) (a .position)) .motif)

@@ -1,13 +1,13 @@
--- THE WALK: from the node of the orientation's own axiom, r steps at resolutions 1 to r by the digits of s, highest first, reach exactly the cell
--- that s names. A node is a place of the table's descent, and a step goes one level down; what the descent reaches is drawn (`CellLaws`).
+-- THE WALK: from the node of the orientation's own axiom, r steps by the digits of s, highest first, reach exactly the cell
+-- that s names. A frame is a place of the table's descent, and a step goes one level down; what the descent reaches is drawn (`CellLaws`).
 use mathlib.Core.Path.{_≡_, refl, sym, ap, _∙_}
 use mathlib.Core.Bool.{Bool, true, false, cond}
 use mathlib.Core.List.{List, [], _∷_}
 use Prim.Native.Nat.{ℕ, zero, suc, _+_, _-_, _*_, _/_, _%_, _^_, _<_, _≤_}
 use native.Mathlib.Omega.{arith}
 use native.Mathlib.Nat as N
-use borrow.Author.Tests.{eq-eqb, ne-eqb, le-leb, lt-leb, le-ltb}
-use lib.Dec.{T, eqb, leb, lit≤, eqb·suc-zero}
+use borrow.Author.Tests.{eq-eqb, ne-eqb, le-leb, lt-leb, le-ltb, lt-ltb}
+use lib.Dec.{T, eqb, leb, lit≤}
 use lib.IntN.{ℤ, pos, negsuc, _+ℤ_, _*ℤ_, natAbs}
 use Rattle.whole.proofs.Claims.{Claim, eq, below as belowAll, all, each}
 use Rattle.whole.proofs.Parts.{up, dn, add-parts, mul-up, mul-dn}
@@ -25,12 +25,12 @@ use Rattle.lsystem.proofs.CellCode.{axiom-state, axiom-state-small}
 use Rattle.lsystem.proofs.CellLaws.{axiomIn, drawn-follow, cell-at}
 use Rattle.a5.specs.A5Table.{a5Table}
 use Rattle.a5.proofs.Once.{cell-bounds}
-use Rattle.nodes.specs.declared.Node.{Node}
+use Rattle.nodes.specs.declared.Frame.{Frame}
 use Rattle.nodes.specs.declared.descent.Place.{Place}
-use Rattle.nodes.specs.Nodes.{goodNode, nodeStart, node, axiomNode, childCell, below, bounded, stepTo, childStepOf, nodeAt}
+use Rattle.nodes.specs.Nodes.{goodFrame, goodNode, canStep, frameStart, frame, axiomFrame, axiomNode, childCell, below, bounded, cellBelow, stepTo, childStepOf, frameAt, nodeAt}
 use Rattle.nodes.specs.NodeAnswers.{axiomNodeOf}
 use Rattle.nodes.specs.NodeWalks.{walkedNode, lastStep}
-use Rattle.nodes.specs.Inside.Descents.{stepAt, down, descended, atOrigin, placeOfNode, nodeOfPlace, Room}
+use Rattle.nodes.specs.Inside.Descents.{stepAt, down, descended, atOrigin, placeOfFrame, frameOfPlace, Room}
 use Rattle.nodes.proofs.DescentLaws.{entries, leafOf, end-room, follow-end}
 use Rattle.nodes.proofs.NodePositions.{int-position}
 use Rattle.nodes.proofs.ChildLaws.{axiom-token, below-down, leaf-cell}
@@ -95,13 +95,13 @@ unfolding descended
 fours-descended zero q p f = f
 fours-descended (suc n) q p f = fours-descended n q _ (fours-down p _ f (omega arith))
 
--- ---- the node of a place, and the place of a node
+-- ---- the frame of a place, and the place of a frame
 small : (x : ℤ) → (natAbs x + 16) * 2 ^ 0 ≤ 2 ^ 34 → natAbs x ≤ 2 ^ 36
 small x h = omega arith
 
 module _ (p : Place) (n : Room (2 ^ 34) 0 p) where
-  pub place-back : placeOfNode (nodeOfPlace p) ≡ p
-  unfolding node nodeStart stateOf
+  pub place-back : placeOfFrame (frameOfPlace p) ≡ p
+  unfolding frame frameStart stateOf
   place-back =
       let a = int-back (p .a) (N.le-trans (small (p .a) (n .a)) (lit≤ tt)) in
       let b = int-back (p .b) (N.le-trans (small (p .b) (n .b)) (lit≤ tt)) in
@@ -115,8 +115,8 @@ module _ (p : Place) (n : Room (2 ^ 34) 0 p) where
       state : 2 * (p .state / 2) + bit (eqb (bit (eqb (p .state % 2) 1)) 1) ≡ p .state
       state = omega (arith, flip (p .state % 2) (omega arith))
 
-  pub place-good : Fours p → goodNode (nodeOfPlace p) ≡ true
-  unfolding node goodNode
+  pub place-good : Fours p → goodFrame (frameOfPlace p) ≡ true
+  unfolding frame goodFrame
   place-good f =
       rw (le-leb (p .state / 2) 13 (omega (arith, n .state)), flip (eqb (p .state % 2) 1), int-position (p .a) (small (p .a) (n .a)), int-position (p .b) (small (p .b) (n .b)), eq-eqb _ 0 (f .a), eq-eqb _ 0 (f .b))
     where
@@ -125,8 +125,8 @@ module _ (p : Place) (n : Room (2 ^ 34) 0 p) where
       flip false = refl
 
 -- the axiom's place
-axiom-place : (o : ℕ) → axiomNode o ≡ nodeOfPlace (atOrigin (2 * axiomMotif o))
-unfolding axiomNode origin
+axiom-place : (o : ℕ) → axiomFrame o ≡ frameOfPlace (atOrigin (2 * axiomMotif o))
+unfolding axiomFrame origin
 axiom-place o =
     let half : 2 * axiomMotif o / 2 ≡ axiomMotif o = omega arith in
     let even : eqb (2 * axiomMotif o % 2) 1 ≡ false = ne-eqb (2 * axiomMotif o % 2) 1 (omega arith) in
@@ -145,7 +145,7 @@ cell-same c e h =
     same Flavor.None (Flavor.Of g) e = cc
     same Flavor.None Flavor.None e = refl
 
--- ---- the node below the cell that s names is the place that the digits of s descend to; q has one digit more
+-- ---- the frame below the cell that s names is the place that the digits of s descend to; q has one digit more
 module _ (o : ℕ) where
   abbrev reached : ℕ → ℕ → Place
   reached r q = descended r q (atOrigin (2 * axiomMotif o))
@@ -153,29 +153,29 @@ module _ (o : ℕ) where
   reached-room : (r q : ℕ) → r ≤ 30 → Room (2 ^ 34) 0 (reached r q)
   reached-room r q k = end-room (2 * axiomMotif o) r q (axiom-state-small o) k
 
-  reached-good : (r q : ℕ) → r ≤ 30 → goodNode (nodeOfPlace (reached r q)) ≡ true
+  reached-good : (r q : ℕ) → r ≤ 30 → goodFrame (frameOfPlace (reached r q)) ≡ true
   reached-good r q k = place-good (reached r q) (reached-room r q k) (fours-descended r q (atOrigin (2 * axiomMotif o)) (record { state = axiom-state-small o; a = refl; b = refl }))
 
-  pub node-is : (r s q : ℕ) → r ≤ 30 → s < 4 ^ r → q / 4 ≡ curvePlace o r s → nodeAt o r s ≡ nodeOfPlace (reached r q)
-  unfolding nodeAt descended
-  node-is zero s q k l e = axiom-place o
-  node-is (suc r) s q k l e =
+  pub frame-is : (r s q : ℕ) → r ≤ 30 → s < 4 ^ r → q / 4 ≡ curvePlace o r s → frameAt o r s ≡ frameOfPlace (reached r q)
+  unfolding frameAt descended
+  frame-is zero s q k l e = axiom-place o
+  frame-is (suc r) s q k l e =
       let i : r ≤ 30 = omega arith in
       let j : s / 4 < 4 ^ r = omega arith in
       let x = last-digit o r s l in
       let d : q / 4 % 4 ≡ curvePlace o 1 (s % 4) = ap (λ q. q % 4) e ∙ x .1 in
-      let again : nodeAt o r (s / 4) ≡ nodeOfPlace (reached r (q / 4)) = node-is r (s / 4) (q / 4) i j (ap (λ q. q / 4) e ∙ x .0) in
+      let again : frameAt o r (s / 4) ≡ frameOfPlace (reached r (q / 4)) = frame-is r (s / 4) (q / 4) i j (ap (λ q. q / 4) e ∙ x .0) in
       let p = reached r (q / 4) in
       ap (λ n. below n (curvePlace o 1 (s % 4))) again
-      ∙ ap (below (nodeOfPlace p)) (sym d)
-      ∙ sym (below-down (nodeOfPlace p) (reached-good r (q / 4) i) (q / 4 % 4) (omega arith))
-      ∙ ap (λ p. nodeOfPlace (down p (q / 4 % 4))) (place-back p (reached-room r (q / 4) i))
-      ∙ ap nodeOfPlace (sym (descended-last r q (atOrigin (2 * axiomMotif o))))
+      ∙ ap (below (frameOfPlace p)) (sym d)
+      ∙ sym (below-down (frameOfPlace p) (reached-good r (q / 4) i) (q / 4 % 4) (omega arith))
+      ∙ ap (λ p. frameOfPlace (down p (q / 4 % 4))) (place-back p (reached-room r (q / 4) i))
+      ∙ ap frameOfPlace (sym (descended-last r q (atOrigin (2 * axiomMotif o))))
 
-  pub node-good : (r s : ℕ) → r ≤ 30 → s < 4 ^ r → goodNode (nodeAt o r s) ≡ true
-  node-good r s k l =
+  pub frame-good : (r s : ℕ) → r ≤ 30 → s < 4 ^ r → goodFrame (frameAt o r s) ≡ true
+  frame-good r s k l =
       let e : 4 * curvePlace o r s / 4 ≡ curvePlace o r s = omega arith in
-      rw (node-is r s (4 * curvePlace o r s) k l e) (reached-good r (4 * curvePlace o r s) k)
+      rw (frame-is r s (4 * curvePlace o r s) k l e) (reached-good r (4 * curvePlace o r s) k)
 
   -- ---- one step
   module _ (h : o ≤ 5) (n s : ℕ) (k : n ≤ 29) (l : s < 4 ^ suc n) where
@@ -185,20 +185,20 @@ module _ (o : ℕ) where
     room : Room (2 ^ 34) 0 (reached n q)
     room = reached-room n q (omega arith)
 
-    parent-is : nodeAt o n (s / 4) ≡ nodeOfPlace (reached n q)
-    parent-is = node-is n (s / 4) q (omega arith) (omega arith) (last-digit o n s l .0)
+    parent-is : frameAt o n (s / 4) ≡ frameOfPlace (reached n q)
+    parent-is = frame-is n (s / 4) q (omega arith) (omega arith) (last-digit o n s l .0)
 
-    pub parent-good : goodNode (nodeAt o n (s / 4)) ≡ true
+    pub parent-good : goodFrame (frameAt o n (s / 4)) ≡ true
     parent-good = rw parent-is (reached-good n q (omega arith))
 
     -- the child's cell is the drawn one
-    pub child-drawn : childCell (nodeAt o n (s / 4)) (curvePlace o 1 (s % 4)) ≡ drawnCell o (suc n) s
+    pub child-drawn : childCell (frameAt o n (s / 4)) (curvePlace o 1 (s % 4)) ≡ drawnCell o (suc n) s
     child-drawn =
         let e = last-digit o n s l .1 in
         let p = reached n q in
         rw (parent-is, ← e)
         (cell-same _ _
-        (leaf-cell (nodeOfPlace p) (reached-good n q (omega arith)) (q % 4) (omega arith)
+        (leaf-cell (frameOfPlace p) (reached-good n q (omega arith)) (q % 4) (omega arith)
         ∙ ap (λ p. leafOf p (q % 4)) (place-back p room)
         ∙ follow-end (2 * axiomMotif o) n q
         ∙ ap (λ j. follow a5Table n origin j q) (sym (axiom-state o h))
@@ -207,13 +207,18 @@ module _ (o : ℕ) where
     in-place : bounded (suc n) (cellAt o (suc n) s) ≡ cellAt o (suc n) s
     in-place = rw (cell-at o n s h k l, cell-bounds (axiomIn o) n (curvePlace o (suc n) s))
 
-    pub step-is : childStepOf o (suc n) (nodeAt o n (s / 4)) (s % 4) ≡ (cellAt o (suc n) s >>= λ c. told (record { cell = c; node = nodeAt o (suc n) s }))
-    unfolding childStepOf stepTo nodeAt cellAt
+    pub parent-steps : canStep (nodeAt o n (s / 4)) ≡ true
+    unfolding canStep goodNode nodeAt
+    parent-steps = rw (le-leb o 5 h, le-leb n 30 (omega arith), parent-good, lt-ltb n 30 (omega arith))
+
+    pub step-is : childStepOf (nodeAt o n (s / 4)) (s % 4) ≡ (cellAt o (suc n) s >>= λ c. told (record { cell = c; node = nodeAt o (suc n) s }))
+    unfolding childStepOf stepTo cellBelow nodeAt frameAt cellAt
     step-is =
-        rw (eqb·suc-zero n, le-ltb 30 (suc n) (omega arith), le-ltb 5 o h, parent-good, le-ltb 3 (s % 4) (omega arith), child-drawn)
+        let next : n + 1 ≡ suc n = omega arith in
+        rw (parent-steps, le-ltb 3 (s % 4) (omega arith), next, child-drawn)
         (ap (λ x. x >>= λ c. told (record { cell = c; node = nodeAt o (suc n) s })) in-place)
 
-    stepped : (c : Cell) → cellAt o (suc n) s ≡ told c → childStepOf o (suc n) (nodeAt o n (s / 4)) (s % 4) ≡ told (record { cell = c; node = nodeAt o (suc n) s })
+    stepped : (c : Cell) → cellAt o (suc n) s ≡ told c → childStepOf (nodeAt o n (s / 4)) (s % 4) ≡ told (record { cell = c; node = nodeAt o (suc n) s })
     stepped c e = step-is ∙ rw e
 
     named-at : cellOf o (suc n) s ≡ cellAt o (suc n) s
@@ -222,8 +227,12 @@ module _ (o : ℕ) where
 
 -- ---- the walk
 module _ (o : ℕ) (h : o ≤ 5) where
+  pub node-good : (r s : ℕ) → r ≤ 30 → s < 4 ^ r → goodNode (nodeAt o r s) ≡ true
+  unfolding goodNode nodeAt
+  node-good r s k l = rw (le-leb o 5 h, le-leb r 30 k, frame-good o r s k l)
+
   pub walk-nodes : (r s : ℕ) → r ≤ 30 → s < 4 ^ r → walkedNode o r s ≡ told (nodeAt o r s)
-  unfolding walkedNode axiomNodeOf nodeAt
+  unfolding walkedNode axiomNodeOf axiomNode nodeAt frameAt
   walk-nodes zero s k l = rw (le-ltb 5 o h)
   walk-nodes (suc r) s k l =
       let i : r ≤ 29 = omega arith in

@@ -1,4 +1,5 @@
-// Answers for nodes and for the child steps that go down A5's curve from one to the next. A node's positions
+// Answers for nodes and for the child steps that go down A5's curve from one to the next. A node knows its
+// walk's orientation and resolution, so a step asks for a digit alone. The positions of its frame
 // are f64: they are tested whole from their bits, worked on as i64 and returned by exact casts. Which
 // position names a cell is `lsystem`'s; the table that a step reads is `a5`'s.
 ghost use mathlib.Core.Path.{_≡_};
@@ -8,9 +9,9 @@ ghost use lib.Dec.{eqb};
 ghost use lib.IntN.{natAbs};
 ghost use Rattle.triple.specs.Orientations.{movedBy};
 ghost use Rattle.turtle.specs.Plane.{ab};
-ghost use Rattle.nodes.specs.Nodes.{goodPosition, goodNode, node, bounded, stepTo, childStepOf, nodeAt, nodeOf};
+ghost use Rattle.nodes.specs.Nodes.{goodPosition, goodFrame, goodNode, canStep, frame, bounded, nodeBelow, cellBelow, stepTo, childStepOf, frameAt, nodeOf};
 ghost use Rattle.nodes.specs.NodeAnswers.{axiomNodeOf, saidNode, saidReached, saidChild, saidBounded};
-ghost use Rattle.nodes.specs.Inside.Descents.{placeOfNode, nodeOfPlace, namedBy, Exact};
+ghost use Rattle.nodes.specs.Inside.Descents.{placeOfFrame, frameOfPlace, namedBy, Exact};
 use crate::descent::Drawn;
 use crate::descent::Place;
 use crate::descent::descend;
@@ -19,8 +20,6 @@ use lsystem::cell::Cell;
 use lsystem::lookup::PositionAnswer;
 use lsystem::lookup::triple_to_s;
 use triple::Triple;
-use triple::domain::DomainAnswer;
-use triple::domain::domain_of;
 use triple::domain::position_count;
 use triple::domain::row_count;
 use triple::in_bounds_wide;
@@ -33,14 +32,23 @@ use turtle::corner::TripleAnswer;
 pub mod descent;
 pub mod words;
 
-// The state of the descent below a cell, from which its children's digits are read. Good nodes have a
-// motif of at most 13, a flip of 0 or 1, and positions that are whole multiples of 4, at most 2^36 in
-// size, and not negative zero.
-pub struct Node {
+// A piece of the curve below a cell, from which the cell's children are read: the four fields of the
+// Rust's node. Good ones have a motif of at most 13, a flip of 0 or 1, and positions that are whole
+// multiples of 4, at most 2^36 in size, and not negative zero.
+pub struct Frame {
     pub motif: u64,
     pub flip: u8,
     pub pos_a: f64,
     pub pos_b: f64,
+}
+
+// A frame and the walk that came to it: its orientation, and the resolution of the cell above it. So a
+// step cannot be taken in another orientation or to another resolution than the walk's own. Good nodes
+// have an orientation of at most 5, a resolution of at most 30 and a good frame.
+pub struct Node {
+    pub orientation: u8,
+    pub resolution: u8,
+    pub frame: Frame,
 }
 
 // What a child step answers: the child's cell, and the node below it.
@@ -70,17 +78,17 @@ pub enum ChildAnswer {
     Refused(Refusal),
 }
 
-impl Node {
+impl Frame {
     pub const GREATEST_MOTIF: u64 = 13;
 
     pub const GREATEST_FLIP: u8 = 1;
     // The largest size of a position.
     pub const LIMIT: f64 = 68719476736.0;
 
-    // The one place where a node is made. Anything may stand in it: whether it is within the limits is
+    // The one place where a frame is made. Anything may stand in it: whether it is within the limits is
     // what `is_good` tells.
     pub fn new(motif: u64, flip: u8, pos_a: f64, pos_b: f64) -> Self
-        ensures { λ n. ⌜ n ≡ record { motif = motif; flip = flip; «pos_a» = «pos_a»; «pos_b» = «pos_b» } ⌝ }
+        ensures { λ f. ⌜ f ≡ record { motif = motif; flip = flip; «pos_a» = «pos_a»; «pos_b» = «pos_b» } ⌝ }
     {
         Self {
             motif,
@@ -90,17 +98,17 @@ impl Node {
         }
     }
 
-    // The node of whole positions. They may be beyond the limit, as those below a good node can be, and
+    // The frame of whole positions. They may be beyond the limit, as those below a good frame can be, and
     // are exact all the same.
     fn whole(motif: u64, flip: u8, a: i64, b: i64) -> Self
         requires { ⌜ (flip ≤ 1) × ((natAbs a ≤ 2 ^ 38) × (natAbs b ≤ 2 ^ 38)) ⌝ }
-        ensures { λ n. ⌜ n ≡ node motif (eqb flip 1) (ab a b) ⌝ }
+        ensures { λ f. ⌜ f ≡ frame motif (eqb flip 1) (ab a b) ⌝ }
     {
         Self::new(motif, flip, a as f64, b as f64)
     }
 
     pub fn is_good(self) -> bool
-        ensures { λ g. ⌜ g ≡ goodNode self ⌝ }
+        ensures { λ g. ⌜ g ≡ goodFrame self ⌝ }
     {
         if self.motif > Self::GREATEST_MOTIF {
             return false;
@@ -114,50 +122,10 @@ impl Node {
         is_position(self.pos_b)
     }
 
-    // The child with a digit of the curve, that is the last digit of its position: its cell at the
-    // resolution, which is the child's, and the node below it.
-    pub fn child(self, digit: u8, resolution: u8, orientation: u8) -> ChildAnswer
-        ensures { λ a. ⌜ saidChild a ≡ childStepOf orientation resolution self digit ⌝ }
-    {
-        if resolution == 0 {
-            return ChildAnswer::Refused(Refusal::Resolution);
-        }
-        let domain = domain_of(orientation, resolution);
-        if let DomainAnswer::Refused(e) = domain {
-            return ChildAnswer::Refused(e);
-        }
-        if !self.is_good() {
-            return ChildAnswer::Refused(Refusal::Node);
-        }
-        if digit > 3 {
-            return ChildAnswer::Refused(Refusal::Digit);
-        }
-        let recipe = recipe_of(orientation);
-        let d = place_from(recipe.backward, 4, digit as u64);
-        self.step_to(d, resolution, orientation)
-    }
-
-    // The child at a place of the node's four.
-    fn step_to(self, d: u64, resolution: u8, orientation: u8) -> ChildAnswer
-        requires { ⌜ (goodNode self ≡ true) × ((d < 4) × ((0 < resolution) × (resolution ≤ 30))) ⌝ }
-        ensures { λ a. ⌜ saidChild a ≡ stepTo orientation resolution self d ⌝ }
-    {
-        let recipe = recipe_of(orientation);
-        let at = self.place();
-        let found = cell_within(recipe.shifted, resolution, at.leaf(d));
-        let Bounded::In(cell) = found else {
-            return ChildAnswer::Refused(Refusal::Bounds);
-        };
-        ChildAnswer::Child(ChildStep {
-            cell,
-            node: Self::at(at.down(d)),
-        })
-    }
-
-    // Where a good node stands in the descent.
+    // Where a good frame stands in the descent.
     fn place(self) -> Place
-        requires { ⌜ goodNode self ≡ true ⌝ }
-        ensures { λ p. ⌜ p ≡ placeOfNode self ⌝ }
+        requires { ⌜ goodFrame self ≡ true ⌝ }
+        ensures { λ p. ⌜ p ≡ placeOfFrame self ⌝ }
     {
         Place {
             a: self.pos_a as i64,
@@ -166,12 +134,97 @@ impl Node {
         }
     }
 
-    // The node that stands at a place of the descent.
+    // The frame that stands at a place of the descent.
     fn at(p: Place) -> Self
         requires { ⌜ Exact p ⌝ }
-        ensures { λ n. ⌜ n ≡ nodeOfPlace p ⌝ }
+        ensures { λ f. ⌜ f ≡ frameOfPlace p ⌝ }
     {
         Self::whole(p.state / 2, (p.state % 2) as u8, p.a, p.b)
+    }
+}
+
+impl Node {
+    // The one place where a node is made. Anything may stand in it.
+    pub fn new(orientation: u8, resolution: u8, frame: Frame) -> Self
+        ensures { λ n. ⌜ n ≡ record { orientation = orientation; resolution = resolution; frame = frame } ⌝ }
+    {
+        Self {
+            orientation,
+            resolution,
+            frame,
+        }
+    }
+
+    pub fn is_good(self) -> bool
+        ensures { λ g. ⌜ g ≡ goodNode self ⌝ }
+    {
+        if self.orientation > GREATEST_ORIENTATION {
+            return false;
+        }
+        if self.resolution > Triple::GREATEST_RESOLUTION {
+            return false;
+        }
+        let frame = self.frame;
+        frame.is_good()
+    }
+
+    // Whether it is good and has children: below the last resolution there are none.
+    pub fn can_step(self) -> bool
+        ensures { λ g. ⌜ g ≡ canStep self ⌝ }
+    {
+        if !self.is_good() {
+            return false;
+        }
+        self.resolution < Triple::GREATEST_RESOLUTION
+    }
+
+    // The child with a digit of the curve, that is the last digit of its position: its cell, one
+    // resolution down, and the node below it.
+    pub fn child(self, digit: u8) -> ChildAnswer
+        ensures { λ a. ⌜ saidChild a ≡ childStepOf self digit ⌝ }
+    {
+        if !self.can_step() {
+            return ChildAnswer::Refused(Refusal::Node);
+        }
+        if digit > 3 {
+            return ChildAnswer::Refused(Refusal::Digit);
+        }
+        let recipe = recipe_of(self.orientation);
+        let d = place_from(recipe.backward, 4, digit as u64);
+        self.step_to(d)
+    }
+
+    // The child at a place of the node's four.
+    fn step_to(self, d: u64) -> ChildAnswer
+        requires { ⌜ (canStep self ≡ true) × (d < 4) ⌝ }
+        ensures { λ a. ⌜ saidChild a ≡ stepTo self d ⌝ }
+    {
+        let found = self.cell_below(d);
+        let Bounded::In(cell) = found else {
+            return ChildAnswer::Refused(Refusal::Bounds);
+        };
+        ChildAnswer::Child(ChildStep {
+            cell,
+            node: self.below(d),
+        })
+    }
+
+    fn cell_below(self, d: u64) -> Bounded
+        requires { ⌜ (canStep self ≡ true) × (d < 4) ⌝ }
+        ensures { λ c. ⌜ saidBounded c ≡ cellBelow self d ⌝ }
+    {
+        let recipe = recipe_of(self.orientation);
+        let frame = self.frame;
+        cell_within(recipe.shifted, self.resolution + 1, frame.place().leaf(d))
+    }
+
+    fn below(self, d: u64) -> Self
+        requires { ⌜ (canStep self ≡ true) × (d < 4) ⌝ }
+        ensures { λ n. ⌜ n ≡ nodeBelow self d ⌝ }
+    {
+        let frame = self.frame;
+        let next = Frame::at(frame.place().down(d));
+        Self::new(self.orientation, self.resolution + 1, next)
     }
 }
 
@@ -180,8 +233,8 @@ impl Node {
 fn is_position(x: f64) -> bool
     ensures { λ p. ⌜ p ≡ goodPosition x ⌝ }
 {
-    if x >= -Node::LIMIT {
-        if x <= Node::LIMIT {
+    if x >= -Frame::LIMIT {
+        if x <= Frame::LIMIT {
             let t = std::num::truncating_f64_to_i64(x);
             let back = t as f64;
             if f64::to_bits(back) == f64::to_bits(x) {
@@ -192,7 +245,7 @@ fn is_position(x: f64) -> bool
     false
 }
 
-// The node of the orientation's own axiom, from which a walk down starts.
+// The node of the orientation's own axiom, at resolution 0, from which a walk down starts.
 pub fn axiom_node(orientation: u8) -> NodeAnswer
     ensures { λ a. ⌜ saidNode a ≡ axiomNodeOf orientation ⌝ }
 {
@@ -200,7 +253,7 @@ pub fn axiom_node(orientation: u8) -> NodeAnswer
         return NodeAnswer::Refused(Refusal::Orientation);
     }
     let recipe = recipe_of(orientation);
-    NodeAnswer::Node(Node::whole(recipe.motif, 0, 0, 0))
+    NodeAnswer::Node(Node::new(orientation, 0, Frame::whole(recipe.motif, 0, 0, 0)))
 }
 
 // Three coordinates that may not fit an i32.
@@ -264,20 +317,21 @@ pub fn triple_to_curve_node(orientation: u8, resolution: u8, t: Triple) -> Reach
     let found = triple_to_s(orientation, resolution, t);
     match found {
         PositionAnswer::At(position) => {
-            let node = node_below(orientation, resolution, position.s);
+            let frame = frame_below(orientation, resolution, position.s);
+            let node = Node::new(orientation, resolution, frame);
             ReachedAnswer::Reached(Reached { position, node })
         }
         PositionAnswer::Refused(e) => ReachedAnswer::Refused(e),
     }
 }
 
-// The node below the cell that s names. The descent reads the digits from the second on, so that
+// The frame below the cell that s names. The descent reads the digits from the second on, so that
 // four times a place has all of the place's own.
-fn node_below(orientation: u8, resolution: u8, s: u64) -> Node
+fn frame_below(orientation: u8, resolution: u8, s: u64) -> Frame
     requires { ⌜ (resolution ≤ 30) × (s < 4 ^ resolution) ⌝ }
-    ensures { λ n. ⌜ n ≡ nodeAt orientation resolution s ⌝ }
+    ensures { λ f. ⌜ f ≡ frameAt orientation resolution s ⌝ }
 {
     let recipe = recipe_of(orientation);
     let place = place_from(recipe.backward, position_count(resolution), s);
-    Node::at(descend(2 * recipe.motif, resolution as u64, 4 * place))
+    Frame::at(descend(2 * recipe.motif, resolution as u64, 4 * place))
 }

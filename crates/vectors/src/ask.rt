@@ -9,6 +9,7 @@ use code::Reading;
 use code::WriteAnswer;
 use nodes::ChildAnswer;
 use nodes::ChildStep;
+use nodes::Frame;
 use nodes::Node;
 use text::number::ByteWord;
 use text::number::FloatWord;
@@ -193,51 +194,60 @@ fn byte_or_more(line: &[u8], k: usize) -> u64 {
 pub(crate) fn child(line: &[u8], out: &mut [u8]) -> usize
     ensures { λ n. ⌜ n ≤ length (now (out .entry)) ⌝ }
 {
-    let NaturalWord::Natural(motif) = natural(word(line, 1)) else {
+    let NaturalWord::Natural(motif) = natural(word(line, 3)) else {
         return unread(out);
     };
-    let ByteWord::Byte(flip) = byte(word(line, 2)) else {
+    let ByteWord::Byte(flip) = byte(word(line, 4)) else {
         return unread(out);
     };
-    let FloatWord::Float(pos_a) = float(word(line, 3)) else {
+    let FloatWord::Float(pos_a) = float(word(line, 5)) else {
         return unread(out);
     };
-    let FloatWord::Float(pos_b) = float(word(line, 4)) else {
+    let FloatWord::Float(pos_b) = float(word(line, 6)) else {
         return unread(out);
     };
-    child_of(Node::new(motif, flip, pos_a, pos_b), line, out)
+    child_of(Frame::new(motif, flip, pos_a, pos_b), line, out)
 }
 
-// The step by the digit, resolution and orientation that the line's last three words write.
-fn child_of(node: Node, line: &[u8], out: &mut [u8]) -> usize
+// The step from the node of this frame and the orientation and resolution of the line's first two words,
+// by the digit of its last.
+fn child_of(frame: Frame, line: &[u8], out: &mut [u8]) -> usize
     ensures { λ n. ⌜ n ≤ length (now (out .entry)) ⌝ }
 {
-    let ByteWord::Byte(digit) = byte(word(line, 5)) else {
+    let ByteWord::Byte(o) = byte(word(line, 1)) else {
         return unread(out);
     };
-    let ByteWord::Byte(r) = byte(word(line, 6)) else {
+    let ByteWord::Byte(r) = byte(word(line, 2)) else {
         return unread(out);
     };
-    let ByteWord::Byte(o) = byte(word(line, 7)) else {
+    let ByteWord::Byte(digit) = byte(word(line, 7)) else {
         return unread(out);
     };
-    let answer = node.child(digit, r, o);
+    let answer = Node::new(o, r, frame).child(digit);
     match answer {
         ChildAnswer::Child(c) => put_step(out, c),
         ChildAnswer::Refused(e) => refused(out, e),
     }
 }
 
+// The cell, and the node below it.
 fn put_step(out: &mut [u8], c: ChildStep) -> usize
     ensures { λ n. ⌜ n ≤ length (now (out .entry)) ⌝ }
 {
     let t = c.cell.triple;
-    let node = c.node;
     let after_triple = put_triple(out, t);
     let after_cell = put_next_natural(out, after_triple, c.cell.flavor as u64);
-    let after_motif = put_next_natural(out, after_cell, node.motif);
-    let after_flip = put_next_natural(out, after_motif, node.flip as u64);
-    let after_a = put_next_float(out, after_flip, node.pos_a);
-    let end = put_next_float(out, after_a, node.pos_b);
+    let node = c.node;
+    let end = put_node(out, after_cell, node);
     length_of(out.len(), end)
+}
+
+fn put_node(out: &mut [u8], at: usize, node: Node) -> usize {
+    let frame = node.frame;
+    let after_o = put_next_natural(out, at, node.orientation as u64);
+    let after_r = put_next_natural(out, after_o, node.resolution as u64);
+    let after_motif = put_next_natural(out, after_r, frame.motif);
+    let after_flip = put_next_natural(out, after_motif, frame.flip as u64);
+    let after_a = put_next_float(out, after_flip, frame.pos_a);
+    put_next_float(out, after_a, frame.pos_b)
 }

@@ -6,7 +6,7 @@
 //     I a b                         triple of a corner sum: x y z
 //     W o r s                       code of a position: its bytes, in decimal
 //     K byte byte ..                what a code reads as: o r s, and how many bytes it took
-//     N motif flip a b digit r o    child step: x y z flavor, and the node below, motif flip a b
+//     N o r motif flip a b digit    child step: x y z flavor, and the node below, o r motif flip a b
 //     G k text                      numbers of a grammar: its states, and the 41 of state k
 //     D states passes token s text place value ..
 //                                   cell at place s of the text's table, the values put at their places

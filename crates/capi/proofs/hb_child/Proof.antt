@@ -9,8 +9,11 @@ use Rattle.capi.proofs.GivenLaws.{step-called}
 use Rattle.capi.proofs.hb_child.Statement.{statement}
 use Rattle.capi.proofs.hb_child.Tie as tie
 
-node-given-requires : tie.Need-node-given-requires
-node-given-requires c κs = search needs
+frame-given-requires : tie.Need-frame-given-requires
+frame-given-requires c κs = search needs
+
+new-requires : tie.Need-new-requires
+new-requires c κs = search needs
 
 child-requires : tie.Need-child-requires
 child-requires c κs = search needs
@@ -21,7 +24,7 @@ enum-known-answer c = search needs
 put-step-requires : tie.Need-put-step-requires
 put-step-requires c κs =
     let a = c .before .before .before in
-    child-motif _ _ _ _ _ (sym (a .before .before .child .ensures) ∙ ap saidChild (a .answer .given .1))
+    child-motif _ _ _ (sym (a .before .before .child .ensures) ∙ ap saidChild (a .answer .given .1))
 
 enum-known-answer-2 : tie.Need-enum-known-answer-2
 enum-known-answer-2 c = search needs
@@ -39,18 +42,19 @@ returns : tie.Need-returns
 returns c =
     let p = c .before .before .before in
     let a = p .before .before .before .before in
-    step-called (search needs) (a .before .before .before .node-given .ensures) _ _ _ _ _ (both-told stepValues _ _ (a .before .before .child .ensures) (ap saidChild (a .answer .given .1)) (p .put-step .ensures))
+    step-called (search needs) (a .before .before .before .before .frame-given .ensures) (a .before .before .before .new .ensures) _ _ _ (both-told stepValues _ _ (a .before .before .child .ensures) (ap saidChild (a .answer .given .1)) (p .put-step .ensures))
 
 returns-2 : tie.Need-returns-2
 returns-2 c =
     let a = c .before .before in
-    step-called (search needs) (a .before .before .before .node-given .ensures) _ _ _ _ _ (both-refused stepValues _ _ (a .before .before .child .ensures) (ap saidChild (a .answer2 .given .1)) (c .number .ensures))
+    step-called (search needs) (a .before .before .before .before .frame-given .ensures) (a .before .before .before .new .ensures) _ _ _ (both-refused stepValues _ _ (a .before .before .child .ensures) (ap saidChild (a .answer2 .given .1)) (c .number .ensures))
 
 pub hb-child-spec : {M : Type 1} → statement M
 hb-child-spec =
     tie.close
     (tie.spec
-    node-given-requires
+    frame-given-requires
+    new-requires
     child-requires
     enum-known-answer
     put-step-requires

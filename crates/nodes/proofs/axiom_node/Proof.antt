@@ -11,4 +11,5 @@ axiom-node-spec =
     (λ c. search (needs, axioms))
     (λ c κs. search needs)
     (λ c κs. search needs)
+    (λ c κs. search needs)
     (λ c. search (needs, axioms)))

@@ -11,6 +11,7 @@ triple-to-curve-node-spec =
     (λ c κs. search needs)
     (λ c. search needs)
     (λ c κs. search (needs, reaching))
+    (λ c κs. search needs)
     (λ c. search needs)
     (λ c. search (needs, reaching))
     (λ c. search (needs, reaching)))

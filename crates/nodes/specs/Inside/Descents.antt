@@ -12,12 +12,12 @@ use Rattle.tables.specs.Table.{stateOf}
 use Rattle.tables.specs.Descent.{childAt, offsetAt, sumAt, flavorAt}
 use Rattle.a5.specs.A5Table.{a5Table}
 use Rattle.lsystem.specs.declared.cell.Cell.{Cell}
-use Rattle.nodes.specs.declared.Node.{Node}
+use Rattle.nodes.specs.declared.Frame.{Frame}
 use Rattle.nodes.specs.declared.descent.Place.{Place}
 use Rattle.nodes.specs.declared.descent.Drawn.{Drawn}
 use Rattle.nodes.specs.declared.words.Step.{Step}
 use Rattle.nodes.specs.declared.words.Leaf.{Leaf}
-use Rattle.nodes.specs.Nodes.{isFlipped, nodeStart, node}
+use Rattle.nodes.specs.Nodes.{isFlipped, frameStart, frame}
 
 -- ---- what the table has of the child and the leaf d of the state k
 unfoldable pub stepAt : ℕ → ℕ → Step
@@ -49,12 +49,12 @@ atOrigin k = record { a = pos 0; b = pos 0; state = k }
 abbrev pub startOf : Place → AB
 startOf p = ab (p .a) (p .b)
 
--- ---- a node's place, and the node at a place
-abbrev pub placeOfNode : Node → Place
-placeOfNode n = record { a = nodeStart n .a; b = nodeStart n .b; state = stateOf (n .motif) (isFlipped n) }
+-- ---- a frame's place, and the frame at a place
+abbrev pub placeOfFrame : Frame → Place
+placeOfFrame n = record { a = frameStart n .a; b = frameStart n .b; state = stateOf (n .motif) (isFlipped n) }
 
-abbrev pub nodeOfPlace : Place → Node
-nodeOfPlace p = node (p .state / 2) (eqb (p .state % 2) 1) (startOf p)
+abbrev pub frameOfPlace : Place → Frame
+frameOfPlace p = frame (p .state / 2) (eqb (p .state % 2) 1) (startOf p)
 
 -- ---- a drawn cell by its triple, moved or not, and its flavor
 unfoldable pub namedBy : Bool → ℕ → Drawn → Told Cell

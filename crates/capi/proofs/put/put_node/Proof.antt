@@ -1,5 +1,7 @@
--- `put::put_node`: one of the slices is too short, or each gets two values.
+-- `put::put_node`: one of the slices is too short, or they get four values and two.
 use mathlib.Core.Path.{refl}
+use native.Mathlib.Omega.{arith}
+use lib.ListN.{length-set}
 use borrow.Author.Needs.{needs}
 use mir.Syntax.{w32}
 use Rattle.triple.proofs.LentLaws.{first-short, second-short}
@@ -19,14 +21,26 @@ number-requires-2 c κs = search needs
 returns-2 : tie.Need-returns-2
 returns-2 c = second-short _ _ refl (search needs) (search needs)
 
+cast-orientation : tie.Need-cast-orientation
+cast-orientation c = search needs
+
+cast-resolution : tie.Need-cast-resolution
+cast-resolution c = search needs
+
 cast-motif : tie.Need-cast-motif
 cast-motif c = search needs
 
 cast-flip : tie.Need-cast-flip
 cast-flip c = search needs
 
+slice-set-from-orientation : tie.Need-slice-set-from-orientation
+slice-set-from-orientation c = search needs
+
+slice-set-from-resolution : tie.Need-slice-set-from-resolution
+slice-set-from-resolution c = simp length-set (omega arith)
+
 slice-set-from-motif : tie.Need-slice-set-from-motif
-slice-set-from-motif c = search needs
+slice-set-from-motif c = simp length-set (omega arith)
 
 slice-set-from-flip : tie.Need-slice-set-from-flip
 slice-set-from-flip c = search needs
@@ -54,8 +68,12 @@ put-node-spec =
     returns
     number-requires-2
     returns-2
+    cast-orientation
+    cast-resolution
     cast-motif
     cast-flip
+    slice-set-from-orientation
+    slice-set-from-resolution
     slice-set-from-motif
     slice-set-from-flip
     slice-write-places

@@ -1,4 +1,4 @@
--- `put::put_step`: one of the slices is too short, or they get six values and two.
+-- `put::put_step`: one of the slices is too short, or they get eight values and two.
 use mathlib.Core.Path.{refl}
 use native.Mathlib.Omega.{arith}
 use lib.ListN.{length-set}
@@ -24,6 +24,12 @@ returns-2 c = second-short _ _ refl (search needs) (search needs)
 cast-flavor : tie.Need-cast-flavor
 cast-flavor c = search needs
 
+cast-orientation : tie.Need-cast-orientation
+cast-orientation c = search needs
+
+cast-resolution : tie.Need-cast-resolution
+cast-resolution c = search needs
+
 cast-motif : tie.Need-cast-motif
 cast-motif c = search needs
 
@@ -42,11 +48,17 @@ slice-set-from-z c = simp length-set (omega arith)
 slice-set-from-flavor : tie.Need-slice-set-from-flavor
 slice-set-from-flavor c = simp length-set (omega arith)
 
+slice-set-from-orientation : tie.Need-slice-set-from-orientation
+slice-set-from-orientation c = simp length-set (omega arith)
+
+slice-set-from-resolution : tie.Need-slice-set-from-resolution
+slice-set-from-resolution c = simp length-set (omega arith)
+
 slice-set-from-motif : tie.Need-slice-set-from-motif
 slice-set-from-motif c = simp length-set (omega arith)
 
 slice-set-from-flip : tie.Need-slice-set-from-flip
-slice-set-from-flip c = search needs
+slice-set-from-flip c = simp length-set (omega arith)
 
 slice-write-places : tie.Need-slice-write-places
 slice-write-places c = search needs
@@ -72,12 +84,16 @@ put-step-spec =
     number-requires-2
     returns-2
     cast-flavor
+    cast-orientation
+    cast-resolution
     cast-motif
     cast-flip
     slice-set-from-x
     slice-set-from-y
     slice-set-from-z
     slice-set-from-flavor
+    slice-set-from-orientation
+    slice-set-from-resolution
     slice-set-from-motif
     slice-set-from-flip
     slice-write-places

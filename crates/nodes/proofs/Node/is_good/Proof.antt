@@ -1,6 +1,6 @@
--- `Node::is_good` meets its contract: the tests of a node, in their order.
+-- `Node::is_good` meets its contract: the tests of a node, and those of its frame.
 use borrow.Author.Needs.{needs}
-use Rattle.nodes.proofs.NodeLaws.{goodness}
+use Rattle.nodes.proofs.NodeLaws.{node-goodness}
 use Rattle.nodes.proofs.Node.is_good.Statement.{statement}
 use Rattle.nodes.proofs.Node.is_good.Tie as tie
 
@@ -8,9 +8,7 @@ pub is-good-spec : {M : Type 1} → statement M
 is-good-spec =
     tie.close
     (tie.spec
-    (λ c. search (needs, goodness))
-    (λ c. search (needs, goodness))
-    (λ c κs. search (needs, goodness))
-    (λ c. search (needs, goodness))
-    (λ c κs. search (needs, goodness))
-    (λ c. search (needs, goodness)))
+    (λ c. search (needs, node-goodness))
+    (λ c. search (needs, node-goodness))
+    (λ c κs. search needs)
+    (λ c. search (needs, node-goodness)))

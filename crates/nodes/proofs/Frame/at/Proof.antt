@@ -1,8 +1,8 @@
--- `Node::at` meets its contract: a place with coordinates that an f64 holds is a node.
+-- `Frame::at` meets its contract: a place with coordinates that an f64 holds is a frame.
 use borrow.Author.Needs.{needs}
 use Rattle.nodes.proofs.NodeLaws.{standing}
-use Rattle.nodes.proofs.Node.at.Statement.{statement}
-use Rattle.nodes.proofs.Node.at.Tie as tie
+use Rattle.nodes.proofs.Frame.at.Statement.{statement}
+use Rattle.nodes.proofs.Frame.at.Tie as tie
 
 pub at-spec : {M : Type 1} → statement M
 at-spec =

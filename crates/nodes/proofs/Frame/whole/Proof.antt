@@ -1,8 +1,8 @@
--- `Node::whole` meets its contract: whole numbers of at most 2 ^ 38 in size are floats.
+-- `Frame::whole` meets its contract: whole numbers of at most 2 ^ 38 in size are floats.
 use borrow.Author.Needs.{needs}
 use Rattle.nodes.proofs.NodeLaws.{making}
-use Rattle.nodes.proofs.Node.whole.Statement.{statement}
-use Rattle.nodes.proofs.Node.whole.Tie as tie
+use Rattle.nodes.proofs.Frame.whole.Statement.{statement}
+use Rattle.nodes.proofs.Frame.whole.Tie as tie
 
 pub whole-spec : {M : Type 1} → statement M
 whole-spec =

@@ -1,11 +1,11 @@
--- `node_below`: the place where all of a position's digits lead, as a node.
+-- `frame_below`: the place where all of a position's digits lead, as a frame.
 use borrow.Author.Needs.{needs}
 use Rattle.nodes.proofs.NodeBelow.{arriving}
-use Rattle.nodes.proofs.node_below.Statement.{statement}
-use Rattle.nodes.proofs.node_below.Tie as tie
+use Rattle.nodes.proofs.frame_below.Statement.{statement}
+use Rattle.nodes.proofs.frame_below.Tie as tie
 
-pub node-below-spec : {M : Type 1} → statement M
-node-below-spec =
+pub frame-below-spec : {M : Type 1} → statement M
+frame-below-spec =
     tie.close
     (tie.spec
     (λ c κs. search needs)

@@ -1,8 +1,8 @@
--- `node_given`: the node of the two numbers as they are clipped.
+-- `frame_given`: the node of the two numbers as they are clipped.
 use borrow.Author.Needs.{needs}
-use Rattle.capi.proofs.GivenLaws.{node-made}
-use Rattle.capi.proofs.node_given.Statement.{statement}
-use Rattle.capi.proofs.node_given.Tie as tie
+use Rattle.capi.proofs.GivenLaws.{frame-made}
+use Rattle.capi.proofs.frame_given.Statement.{statement}
+use Rattle.capi.proofs.frame_given.Tie as tie
 
 cast-clipped : tie.Need-cast-clipped
 cast-clipped c = search needs
@@ -20,9 +20,9 @@ new-requires : tie.Need-new-requires
 new-requires c κs = search needs
 
 returns : tie.Need-returns
-returns c = node-made (search needs) (c .before .before .clipped .ensures) (c .before .clipped2 .ensures) (c .new .ensures)
+returns c = frame-made (search needs) (c .before .before .clipped .ensures) (c .before .clipped2 .ensures) (c .new .ensures)
 
-pub node-given-spec : {M : Type 1} → statement M
-node-given-spec =
+pub frame-given-spec : {M : Type 1} → statement M
+frame-given-spec =
     tie.close
     (tie.spec cast-clipped clipped-requires clipped-requires-2 cast-new new-requires returns)
