@@ -132,13 +132,16 @@ uint8_t hb_corner_sum(int32_t x, int32_t y, int32_t z, int64_t *out, size_t out_
 uint8_t hb_triple(int64_t a, int64_t b, int32_t *out, size_t out_len);
 
 /* Writes the code of a position, 1 + ceil(resolution / 4) bytes, at most HB_CODE_BYTES.
+ * Codes are written for UV, UW and WV alone.
  * Values: the code to bytes, and the count of its bytes (1) to out; both or, on a refusal, neither.
- * Refusals: 1, 2, 3, 10. */
+ * Refusals: 1, 2, 28, 3, 10. */
 uint8_t hb_code_write(uint8_t orientation, uint8_t resolution, uint64_t s, uint8_t *bytes, size_t bytes_len,
                       uint64_t *out, size_t out_len);
 
 /* Reads the code at the front of some bytes. Later bytes are not looked at.
- * Values: orientation resolution s count (4), count being how many bytes the code takes.
+ * Values: orientation resolution s count old (5), count being how many bytes the code takes. An old code,
+ * of VU, WU or VW, has old 1, and names its cell on the curve run forward: UV, UW or WV and
+ * 4^resolution - 1 - s in the place of its own orientation and s. For any other code old is 0.
  * Refusals: 11 where there is no byte, 1, 2, 11 where the code is cut short, 24 where a spare bit is set, 10. */
 uint8_t hb_code_read(const uint8_t *bytes, size_t bytes_len, uint64_t *out, size_t out_len);
 

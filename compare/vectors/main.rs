@@ -123,11 +123,23 @@ fn words(bytes: &[u8]) -> String {
     bytes.iter().map(|b| b.to_string()).collect::<Vec<_>>().join(" ")
 }
 
+// VU, WU and VW are read as the same place of the curve run forward, and written no more.
+fn read_as(o: u8, r: u8, s: u64) -> (u8, u64, u8) {
+    let turned = (1 << (2 * r)) - 1 - s;
+    match o {
+        1 => (0, turned, 1),
+        3 => (2, turned, 1),
+        4 => (5, turned, 1),
+        _ => (o, s, 0),
+    }
+}
+
 // A code written, read, read with bytes after it, with its spare bits set, where it has any, and cut short.
 fn by_position(o: u8, r: u8, s: u64, random: &mut Random) {
     let bytes = code(o, r, s);
-    let read = format!("{o} {r} {s} {}", bytes.len());
-    println!("W {o} {r} {s}\t{}", words(&bytes));
+    let (forward, place, old) = read_as(o, r, s);
+    let read = format!("{forward} {r} {place} {} {old}", bytes.len());
+    println!("W {o} {r} {s}\t{}", if old == 1 { "! 28".to_string() } else { words(&bytes) });
     println!("K {}\t{read}", words(&bytes));
     let later: Vec<u8> = (0..random.below(5)).map(|_| random.0 as u8).collect();
     println!("K {}\t{read}", words(&[&bytes[..], &later[..]].concat()));
@@ -150,15 +162,16 @@ fn codes(random: &mut Random) {
             for s in [0, count - 1, random.below(count)] {
                 by_position(o, r, s, random);
             }
-            println!("W {o} {r} {count}\t! 3");
+            println!("W {o} {r} {count}\t! {}", if read_as(o, r, 0).2 == 1 { 28 } else { 3 });
         }
     }
-    refused(1, &["W 0 31 0", "W 6 31 9", "W 255 255 18446744073709551615", "K 31", "K 191", "K 223 0", "K 255 255 255"]);
+    refused(1, &["W 0 31 0", "W 1 31 0", "W 6 31 9", "W 255 255 18446744073709551615", "K 31", "K 191", "K 223 0", "K 255 255 255"]);
     refused(2, &["W 6 0 0", "W 6 30 18446744073709551615", "W 255 1 9", "K 192", "K 193 0", "K 224", "K 254 1 2 3 4 5 6 7 8 9"]);
     refused(3, &["W 0 0 1", "W 5 30 18446744073709551615"]);
     refused(11, &["K", "K 1", "K 161", "K 30", "K 30 1 2 3 4 5 6 7"]);
+    refused(28, &["W 1 0 1", "W 3 30 18446744073709551615", "W 4 1 4"]);
     // each spare bit alone
-    refused(24, &["K 161 193", "K 161 194", "K 161 196", "K 161 200", "K 161 208", "K 161 224", "K 30 0 0 0 0 0 0 0 1", "K 30 0 0 0 0 0 0 0 8 0"]);
+    refused(24, &["K 161 193", "K 161 194", "K 161 196", "K 161 200", "K 161 208", "K 161 224", "K 30 0 0 0 0 0 0 0 1", "K 30 0 0 0 0 0 0 0 8 0", "K 33 1"]);
 }
 
 // ---- child steps

@@ -126,7 +126,7 @@ static void code(uint8_t orientation, uint8_t resolution, uint64_t s)
 {
     uint8_t bytes[HB_CODE_BYTES];
     uint64_t count[1];
-    uint64_t out[4];
+    uint64_t out[5];
     printf("code %d %d %" PRIu64 ":", orientation, resolution, s);
     uint8_t status = hb_code_write(orientation, resolution, s, bytes, HB_CODE_BYTES, count, 1);
     if (status != HB_OK) {
@@ -135,11 +135,21 @@ static void code(uint8_t orientation, uint8_t resolution, uint64_t s)
     }
     for (uint64_t k = 0; k < count[0]; k++)
         printf(" %02X", bytes[k]);
-    status = hb_code_read(bytes, (size_t)count[0], out, 4);
+    status = hb_code_read(bytes, (size_t)count[0], out, 5);
     if (status != HB_OK)
         printf(" ! %d\n", status);
     else
-        printf(" reads %" PRIu64 " %" PRIu64 " %" PRIu64 " %" PRIu64 "\n", out[0], out[1], out[2], out[3]);
+        printf(" reads %" PRIu64 " %" PRIu64 " %" PRIu64 " %" PRIu64 " %" PRIu64 "\n", out[0], out[1], out[2], out[3], out[4]);
+}
+
+/* An old code, of s 6 in VU at resolution 2: it is read as s 9 in UV, which names the same cell. */
+static void old_code(void)
+{
+    uint64_t out[5];
+    uint8_t status = hb_code_read((const uint8_t[]){0x22, 0x60}, 2, out, 5);
+    printf("old code 22 60: %d, reads %" PRIu64 " %" PRIu64 " %" PRIu64 " %" PRIu64 " %" PRIu64 "\n", status, out[0], out[1], out[2], out[3], out[4]);
+    cell(1, 2, 6);
+    cell(0, 2, 9);
 }
 
 /* A table of one motif that no compiler wrote: each of its four states has itself for its children. */
@@ -235,10 +245,10 @@ static void refused(void)
     printf("code 0 2 6 with no place for the count: ! %d, left %d %d\n", status, bytes[0], bytes[1]);
     status = hb_code_write(0, 2, 6, bytes, 1, count, 1);
     printf("code 0 2 6 into one byte: ! %d, left %d, count left %" PRIu64 "\n", status, bytes[0], count[0]);
-    uint64_t read[4] = {7, 7, 7, 7};
-    status = hb_code_read(NULL, 0, read, 4);
+    uint64_t read[5] = {7, 7, 7, 7, 7};
+    status = hb_code_read(NULL, 0, read, 5);
     printf("read no byte: ! %d, left %" PRIu64 "\n", status, read[0]);
-    status = hb_code_read((const uint8_t[]){0xA1, 0xC1}, 2, read, 4);
+    status = hb_code_read((const uint8_t[]){0xA1, 0xC1}, 2, read, 5);
     printf("read A1 C1, with a spare bit set: ! %d, left %" PRIu64 "\n", status, read[0]);
 }
 
@@ -284,6 +294,8 @@ int main(void)
     code(0, 2, 6);
     code(5, 1, 3);
     code(5, 1, 4);
+    code(4, 1, 3);
+    old_code();
     folds();
     write_by_hand();
     descend(4, 1, 0, 3);

@@ -16,7 +16,7 @@ static const char A5[] = "A PQAB E\nB B+++PQ---A +e-\nC P---RMb+++ -e+\nM qQ+++C
 
 static int32_t numbers[8], table[HB_TABLE_NUMBERS], drawing[HB_DRAWING_NUMBERS];
 static int64_t sums[3];
-static uint64_t out[4];
+static uint64_t out[5];
 static uint64_t run[64] = {0, 1, 2, 3, 4, 5, 6, 7, 8, 9, 10, 11, 12, 13, 14, 15};
 static double places[2];
 static uint8_t bytes[HB_CODE_BYTES], text[HB_ANSWER_BYTES];
@@ -30,7 +30,7 @@ static void point(void) { hb_point(-0.25, 1e9, 30, numbers, 6); }
 static void corner_sum(void) { hb_corner_sum(-1, 1, 0, sums, 3); }
 static void triple(void) { hb_triple(20, -16, numbers, 6); }
 static void code_write(void) { hb_code_write(5, 30, LAST, bytes, HB_CODE_BYTES, out, 4); }
-static void code_read(void) { hb_code_read(bytes, HB_CODE_BYTES, out, 4); }
+static void code_read(void) { hb_code_read(bytes, HB_CODE_BYTES, out, 5); }
 static void fold(void) { hb_fold(5, 30, run, 16, run + 16, 32, out, 4); }
 static void unfold(void) { hb_unfold(5, 30, run + 48, 2, run, 64, out, 4); }
 static void descend(void) { hb_descend(table, HB_TABLE_NUMBERS, 28, 30, 13, LAST, sums, 3); }

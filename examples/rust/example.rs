@@ -260,7 +260,7 @@ fn triple(a: i64, b: i64) {
 
 /// The code of a position, and what it says when it is read back.
 fn code(orientation: u8, resolution: u8, s: u64) {
-    let (mut bytes, mut count, mut out) = ([0; 9], [0], [0; 4]);
+    let (mut bytes, mut count, mut out) = ([0; 9], [0], [0; 5]);
     let status = haspbarley::code_write(orientation, resolution, s, &mut bytes, &mut count);
     let code = &bytes[..count[0] as usize];
     let written: Vec<String> = code.iter().map(|b| format!("{b:02X}")).collect();
@@ -270,6 +270,15 @@ fn code(orientation: u8, resolution: u8, s: u64) {
         print!(" reads {}", gives(status, &out));
     }
     println!();
+}
+
+/// An old code, of s 6 in VU at resolution 2: it is read as s 9 in UV, which names the same cell.
+fn old_code() {
+    let mut out = [0; 5];
+    let status = haspbarley::code_read(&[0x22, 0x60], &mut out);
+    println!("old code 22 60: {status}, reads {}", gives(status, &out));
+    cell(1, 2, 6);
+    cell(0, 2, 9);
 }
 
 /// A list of positions at resolution 3 folded, and unfolded again.
@@ -347,7 +356,7 @@ fn refused() {
     println!("code 0 2 6 with no place for the count: ! {status}, left {}", gives(0, &bytes));
     let status = haspbarley::code_write(0, 2, 6, &mut bytes[..1], &mut count);
     println!("code 0 2 6 into one byte: ! {status}, left {}, count left {}", bytes[0], count[0]);
-    let mut read = [7; 4];
+    let mut read = [7; 5];
     let status = haspbarley::code_read(&[], &mut read);
     println!("read no byte: ! {status}, left {}", read[0]);
     let status = haspbarley::code_read(&[0xA1, 0xC1], &mut read);
@@ -394,6 +403,8 @@ fn main() {
     code(0, 2, 6);
     code(5, 1, 3);
     code(5, 1, 4);
+    code(4, 1, 3);
+    old_code();
     folds();
     let table = by_hand();
     descend(&table, 4, 1, 0, 3);

@@ -5,6 +5,7 @@ use Prim.Native.Nat.{_+_, _^_}
 use lib.IntN.{pos, negsuc}
 use lib.Ieee.{nan}
 use Rattle.triple.specs.Refusals.{numberOf}
+use Rattle.triple.specs.Orientations.{isBackward}
 use Rattle.turtle.specs.Plane.{far}
 use Rattle.turtle.specs.Corners.{cornerSum, candidate, hasCornerSum, tripleOf}
 use Rattle.code.specs.Codes.{bitsOf, valueOf, bytesOf, codeLength, codeBits, codeBytes, codeOf}
@@ -35,8 +36,9 @@ pub write-examples :
     × (afterCall (firstOf (writeCall 0 2 6) []) (7 ∷ 8 ∷ 9 ∷ []) ≡ 7 ∷ 8 ∷ 9 ∷ [])
     × (afterCall (secondOf (writeCall 0 2 6) (7 ∷ [])) (7 ∷ []) ≡ 7 ∷ [])
     × (statusOf (firstOf (writeCall 5 30 (4 ^ 30)) []) [] ≡ 3)
-unfolding numberOf bitsOf valueOf bytesOf codeLength codeBits codeBytes codeOf statusOf afterCall firstOf secondOf
-write-examples = (refl, refl, refl, refl, refl, refl, refl)
+    × (statusOf (firstOf (writeCall 4 30 (4 ^ 30)) []) [] ≡ 28)
+unfolding numberOf isBackward bitsOf valueOf bytesOf codeLength codeBits codeBytes codeOf statusOf afterCall firstOf secondOf
+write-examples = (refl, refl, refl, refl, refl, refl, refl, refl)
 
 -- a child step of a motif or flip that is negative, refused after the resolution and the orientation and before the digit; of one that is too large the same
 pub step-examples :

@@ -1,5 +1,6 @@
 -- Each call's values, in the order in which it writes them.
 use mathlib.Core.Path.{_≡_}
+use mathlib.Core.Bool.{cond}
 use mathlib.Core.List.{List, [], _∷_}
 use Prim.Native.Nat.{ℕ, _+_, _*_, _/_}
 use lib.IntN.{ℤ, pos, negsuc}
@@ -71,9 +72,9 @@ drawnValues l = l .sum .a ∷ l .sum .b ∷ l .flavor ∷ []
 abbrev pub countValues : ℕ → List ℕ
 countValues n = n ∷ []
 
--- o r s count
+-- o r s count old, 0 or 1
 abbrev pub readingValues : Reading → List ℕ
-readingValues r = r .orientation ∷ r .resolution ∷ r .s ∷ r .used ∷ []
+readingValues r = r .orientation ∷ r .resolution ∷ r .s ∷ r .used ∷ cond (r .old) 1 0 ∷ []
 
 abbrev pub cellCall : ℕ → ℕ → ℕ → Told (List ℤ)
 cellCall o r s = valued cellValues (cellOf o r s)

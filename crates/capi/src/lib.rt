@@ -226,7 +226,7 @@ fn lendable(bytes: usize, out: usize) -> usize
     bytes
 }
 
-// Reads the code at the front of some bytes: orientation resolution s count.
+// Reads the code at the front of some bytes: orientation resolution s count old.
 #[no_mangle]
 pub extern "C" fn hb_code_read(bytes: &[u8], out: &mut [u64]) -> u8
     ensures { λ n. ⌜ (n ≡ statusOf (readCall (now (bytes .entry))) (now (out .entry))) × (now (out .exit) ≡ afterCall (readCall (now (bytes .entry))) (now (out .entry))) ⌝ }

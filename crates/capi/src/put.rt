@@ -187,16 +187,17 @@ pub(crate) fn put_count(count: usize, out: &mut [u64]) -> u8
     0
 }
 
-// orientation resolution s count
+// orientation resolution s count old
 pub(crate) fn put_reading(r: Reading, out: &mut [u64]) -> u8
     ensures { λ n. ⌜ (n ≡ statusOf (told (readingValues r)) (now (out .entry))) × (now (out .exit) ≡ afterCall (told (readingValues r)) (now (out .entry))) ⌝ }
 {
-    if out.len() < 4 {
+    if out.len() < 5 {
         return Refusal::Room.number();
     }
     out[0] = r.orientation as u64;
     out[1] = r.resolution as u64;
     out[2] = r.s;
     out[3] = r.used as u64;
+    out[4] = r.old as u64;
     0
 }

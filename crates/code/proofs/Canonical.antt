@@ -1,5 +1,6 @@
--- A code has one spelling: what is read is the code that a writer writes of it, so two byte lists that are codes from their first byte to their last say the same exactly when they are the same.
+-- A code has one spelling: what is read without the mark is the code that a writer writes of it, so two byte lists that are such codes from their first byte to their last say the same exactly when they are the same.
 use mathlib.Core.Path.{_≡_, refl, sym, ap, ap₂, _∙_}
+use mathlib.Core.Bool.{false}
 use mathlib.Core.List.{List, [], _∷_}
 use mathlib.Core.Logic.{_↔_}
 use Prim.Native.Nat.{ℕ, zero, suc, _+_, _*_, _/_, _%_, _^_, _≤_, _<_}
@@ -7,20 +8,22 @@ use native.Mathlib.Nat.{mod-eq-of-lt, add-zero}
 use native.Mathlib.Numerals.{one-add}
 use native.Mathlib.Omega.{arith}
 use lib.Dec.{ltb, lit<}
-use lib.ListN.{length, take, getD}
+use lib.ListN.{length, take, drop, getD}
 use lib.Pow.{split}
 use lib.Seq.{length-take-le, take-length}
 use borrow.Author.Tests.{ltb-false}
 use Rattle.triple.specs.declared.refusal.Refusal.the-variants as Is
 use Rattle.triple.specs.Refusals.{Told, told, refused, _>>=_}
 use Rattle.triple.specs.Domain.{greatestResolution, greatestOrientation}
+use Rattle.triple.specs.Orientations.{isBackward}
 use Rattle.triple.proofs.RefusalLaws.{never, passed}
 use Rattle.code.specs.declared.Reading.{Reading}
-use Rattle.code.specs.Codes.{bitsOf, valueOf, bytesOf, allBits, codeLength, codeBytes, spareOf, looseOf, readOf, Bytes}
+use Rattle.code.specs.Codes.{bitsOf, valueOf, bytesOf, allBits, codeLength, codeBytes, readingOf, spareOf, looseOf, readOf, Bytes}
 use Rattle.code.proofs.BitLaws.{bits-low, value-whole}
 use Rattle.code.proofs.ByteLaws.{number, all-bits, bytes-front}
 use Rattle.code.proofs.CodeLaws.{positionBytes, spareBits, code-bytes}
-use Rattle.code.proofs.ReadLaws.{fromFirst, read-empty, read-first, position-read}
+use Rattle.code.proofs.ReadLaws.{fromFirst, read-empty, read-first, position-read, position-below}
+use Rattle.code.proofs.TurnLaws.{reading-current}
 use Rattle.code.proofs.SpareLaws.{spare-joined}
 
 -- ---- bytes, out of their bits
@@ -72,22 +75,40 @@ module _ (b : ℕ) (rest : List ℕ) (small : Bytes (b ∷ rest)) (long : positi
       ap (λ (j : ℕ). bytesOf j (bitsOf (8 * j) v)) (sym sized) ∙ ap (bytesOf (length front)) (bits-back front) ∙ bytes-back front (small-take n rest (λ k. small (suc k))) in
       code-bytes (b / 32) r s ∙ ap₂ (λ (x : ℕ) (l : List ℕ). x ∷ l) (first-back b (small 0)) (ap (λ (x : ℕ). bytesOf n (bitsOf (8 * n) x)) moved ∙ back)
 
--- ---- what is read is the code that its values are written as
-Spelled : List ℕ → Reading → Type 0
-Spelled bytes x = spareOf (x .resolution) bytes ≡ 0 → codeBytes (x .orientation) (x .resolution) (x .s) ≡ take (x .used) bytes
+-- ---- what is read is what a code says, and that code's bytes are there
+-- the orientation and the position of the code itself
+abbrev pub ownOrientation : List ℕ → ℕ
+ownOrientation bytes = getD bytes 0 0 / 32
+
+abbrev pub ownPosition : List ℕ → ℕ
+ownPosition bytes = valueOf (take (2 * (getD bytes 0 0 % 32)) (allBits (drop 1 bytes)))
+
+pub record Spelled (bytes : List ℕ) (x : Reading) : Type 0 where
+  pub oriented : ownOrientation bytes ≤ 5
+  pub shallow : x .resolution ≤ 30
+  pub below : ownPosition bytes < 4 ^ x .resolution
+  pub says : x ≡ readingOf (ownOrientation bytes) (x .resolution) (ownPosition bytes)
+  pub spelling : spareOf (x .resolution) bytes ≡ 0 → codeBytes (ownOrientation bytes) (x .resolution) (ownPosition bytes) ≡ take (x .used) bytes
 
 first-spelled : (b : ℕ) (rest : List ℕ) → Bytes (b ∷ rest) → {x : Reading} → fromFirst b (b ∷ rest) ≡ told x → Spelled (b ∷ rest) x
-unfolding fromFirst codeLength Spelled
+unfolding fromFirst codeLength readingOf
 first-spelled b rest small {x} p =
     let shallow = passed (ltb greatestResolution (b % 32)) Is.Resolution p in
     let oriented = passed (ltb greatestOrientation (b / 32)) Is.Orientation (shallow .1) in
     let whole = passed (ltb (suc (length rest)) (codeLength (b % 32))) Is.Code (oriented .1) in
-    let is : record { orientation = b / 32; resolution = b % 32; s = valueOf (take (2 * (b % 32)) (allBits rest)); used = codeLength (b % 32) } ≡ x = cc (whole .1) in
+    let is : readingOf (b / 32) (b % 32) (ownPosition (b ∷ rest)) ≡ x = cc (whole .1) in
     let l : codeLength (b % 32) ≤ suc (length rest) = ltb-false (suc (length rest)) (codeLength (b % 32)) (whole .0) in
     let long : positionBytes (b % 32) ≤ length rest = omega arith in
-    rw (← is) (λ clear. rw (one-add (positionBytes (b % 32))) (spelled b rest small long clear))
+    rw (← is)
+    record {
+      oriented = ltb-false 5 (b / 32) (oriented .0);
+      shallow = ltb-false 30 (b % 32) (shallow .0);
+      below = position-below (b % 32) rest long;
+      says = refl;
+      spelling = λ clear. rw (one-add (positionBytes (b % 32))) (spelled b rest small long clear);
+    }
 
-loose-spelled : (bytes : List ℕ) → Bytes bytes → {x : Reading} → looseOf bytes ≡ told x → Spelled bytes x
+pub loose-spelled : (bytes : List ℕ) → Bytes bytes → {x : Reading} → looseOf bytes ≡ told x → Spelled bytes x
 loose-spelled [] small p = never (read-empty [] refl ∙ p)
 loose-spelled (b ∷ rest) small p = first-spelled b rest small (read-first (b ∷ rest) (λ z. omega (arith, z)) (small 0) ∙ p)
 
@@ -104,16 +125,23 @@ read-loosely bytes {x} p =
     let same : l .0 ≡ x = cc (clear .1) in
     rw (← same) (l .1, omega (arith, ltb-false 0 (spareOf (l .0 .resolution) bytes) (clear .0)))
 
-pub read-spelling : (bytes : List ℕ) → Bytes bytes → {x : Reading} → readOf bytes ≡ told x → codeBytes (x .orientation) (x .resolution) (x .s) ≡ take (x .used) bytes
-unfolding Spelled
-read-spelling bytes small p = let l = read-loosely bytes p in loose-spelled bytes small (l .0) (l .1)
+-- ---- without the mark it is the code that its values are written as
+pub read-spelling : (bytes : List ℕ) → Bytes bytes → {x : Reading} → readOf bytes ≡ told x → x .old ≡ false → codeBytes (x .orientation) (x .resolution) (x .s) ≡ take (x .used) bytes
+unfolding readingOf
+read-spelling bytes small {x} p unmarked =
+    let l = read-loosely bytes p in
+    let e = loose-spelled bytes small (l .0) in
+    let o = ownOrientation bytes in
+    let current : isBackward o ≡ false = sym (ap (λ (y : Reading). y .old) (e .says)) ∙ unmarked in
+    let is = e .says ∙ reading-current o (x .resolution) (ownPosition bytes) (e .oriented) current in
+    ap₂ (λ (p q : ℕ). codeBytes p (x .resolution) q) (ap (λ (y : Reading). y .orientation) is) (ap (λ (y : Reading). y .s) is) ∙ e .spelling (l .1)
 
--- ---- two byte lists that are read, and used to their last byte
-pub codes-canonical : (a b : List ℕ) {x y : Reading} → Bytes a → Bytes b → readOf a ≡ told x → readOf b ≡ told y → x .used ≡ length a → y .used ≡ length b
+-- two byte lists that are read so, and used to their last byte
+pub codes-canonical : (a b : List ℕ) {x y : Reading} → Bytes a → Bytes b → readOf a ≡ told x → readOf b ≡ told y → x .old ≡ false → y .old ≡ false → x .used ≡ length a → y .used ≡ length b
     → ((x .orientation ≡ y .orientation) × (x .resolution ≡ y .resolution) × (x .s ≡ y .s)) ↔ (a ≡ b)
-codes-canonical a b {x} {y} sa sb p q ea eb =
-    let m : codeBytes (x .orientation) (x .resolution) (x .s) ≡ a = read-spelling a sa p ∙ ap (λ (n : ℕ). take n a) ea ∙ take-length a in
-    let n : codeBytes (y .orientation) (y .resolution) (y .s) ≡ b = read-spelling b sb q ∙ ap (λ (n : ℕ). take n b) eb ∙ take-length b in (
+codes-canonical a b {x} {y} sa sb p q ma mb ea eb =
+    let m : codeBytes (x .orientation) (x .resolution) (x .s) ≡ a = read-spelling a sa p ma ∙ ap (λ (n : ℕ). take n a) ea ∙ take-length a in
+    let n : codeBytes (y .orientation) (y .resolution) (y .s) ≡ b = read-spelling b sb q mb ∙ ap (λ (n : ℕ). take n b) eb ∙ take-length b in (
       (λ e. sym m ∙ rw (e .0, e .1, e .2) n),
       (λ e. let same : x ≡ y = cc (p, q, e) in (ap (λ (z : Reading). z .orientation) same, ap (λ (z : Reading). z .resolution) same, ap (λ (z : Reading). z .s) same)),
     )

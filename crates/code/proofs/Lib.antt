@@ -6,6 +6,8 @@ pub mod ByteLaws
 -- ---- the code
 -- its bytes, as numbers
 pub mod CodeLaws
+-- the orientations that are written no more
+pub mod TurnLaws
 -- the writer at each of its tests, and the loop that writes
 pub mod WriteLaws
 -- the reader at each of its tests but the last

@@ -1,24 +1,26 @@
 -- What a reader answers that does not look at spare bits, in arithmetic: the first byte tells the orientation and the resolution, and the bytes after it, joined, the position above the spare bits.
-use mathlib.Core.Path.{_≡_, refl, sym, ap, ap₂, _∙_}
+use mathlib.Core.Path.{_≡_, refl, sym, ap, _∙_}
 use mathlib.Core.List.{List, [], _∷_, _++_, append-assoc}
 use Prim.Native.Nat.{ℕ, _+_, _-_, _*_, _/_, _%_, _^_, _≤_, _<_}
+use native.Mathlib.Nat.{mod-lt}
 use native.Mathlib.Omega.{arith}
 use lib.Dec.{ltb}
 use lib.ListN.{length, take, drop, getD, take-append-drop, length-take, length-drop}
 use mir.Syntax.{w8}
 use mir.Val.{Fits}
-use lib.Pow.{field}
+use lib.Pow.{field, pow-pos}
 use lib.Seq.{drop-at, length-take-le}
 use borrow.Author.Tests.{le-ltb, lt-ltb, eq-eqb, ne-eqb}
+use Rattle.whole.proofs.Powers.{four-by-shift}
 use Rattle.triple.specs.declared.domain.DomainAnswer.{DomainAnswer}
 use Rattle.triple.specs.declared.refusal.Refusal.{Refusal}
 use Rattle.triple.specs.declared.refusal.Refusal.the-variants as Is
 use Rattle.triple.specs.Refusals.{Told, told, refused, refuse, numberOf}
 use Rattle.triple.specs.Domain.{inDomain, domainOf}
 use Rattle.triple.specs.Answers.{saidDomain}
-use Rattle.triple.proofs.DomainLaws.{out-of-domain, in-domain, shallow}
+use Rattle.triple.proofs.DomainLaws.{out-of-domain, in-domain, shallow, oriented}
 use Rattle.code.specs.declared.Reading.{Reading}
-use Rattle.code.specs.Codes.{bitsOf, valueOf, allBits, codeLength, looseOf}
+use Rattle.code.specs.Codes.{bitsOf, valueOf, allBits, codeLength, readingOf, looseOf}
 use Rattle.code.proofs.BitLaws.{length-bits, bits-split, value-whole, value-front}
 use Rattle.code.proofs.ByteLaws.{number, all-bits, all-bits-append}
 use Rattle.code.proofs.CodeLaws.{positionBytes, spareBits, bits-filled}
@@ -51,7 +53,19 @@ position-read r rest h =
     let f : allBits rest ≡ allBits front ++ allBits back = ap allBits (sym (take-append-drop (positionBytes r) rest)) ∙ all-bits-append front back in
     rw (f, e) (front-shifted (2 * r) (spareBits r) (number front) (allBits back))
 
--- the same, with the counts that a reader of all the bytes has worked out
+-- and it is a position
+pub position-below : (r : ℕ) (rest : List ℕ) → positionBytes r ≤ length rest → valueOf (take (2 * r) (allBits rest)) < 4 ^ r
+position-below r rest h =
+    let k = spareBits r in
+    let front = take (positionBytes r) rest in
+    let long : 8 * length front ≡ 2 * r + k = ap (λ (j : ℕ). 8 * j) (length-take-le (positionBytes r) rest h) ∙ sym (bits-filled r) in
+    let v : valueOf (allBits front) ≡ number front % 2 ^ (2 * r + k) =
+    ap valueOf (all-bits front) ∙ value-whole (8 * length front) (number front) ∙ ap (λ (j : ℕ). number front % 2 ^ j) long in
+    let e : valueOf (take (2 * r) (allBits rest)) ≡ number front / 2 ^ k % 2 ^ (2 * r) =
+    sym (position-read r rest h) ∙ ap (λ (x : ℕ). x / 2 ^ k) v ∙ field (number front) (2 * r) k in
+    rw (e, ← four-by-shift r) (mod-lt (number front / 2 ^ k) (pow-pos (2 * r)))
+
+-- the position, with the counts that a reader of all the bytes has worked out
 position-at : (r : ℕ) (bytes : List ℕ) (used : ℕ) → used ≡ codeLength r → used ≤ length bytes → (v spare : ℕ)
     → v ≡ valueOf (allBits (take (used - 1) (drop 1 bytes))) → spare ≡ spareBits r → v / 2 ^ spare ≡ valueOf (take (2 * r) (allBits (drop 1 bytes)))
 unfolding codeLength
@@ -74,7 +88,7 @@ unfoldable pub fromFirst : ℕ → List ℕ → Told Reading
 fromFirst b bytes =
     inDomain (b / 32) (b % 32)
     (refuse (ltb (length bytes) (codeLength (b % 32))) Is.Code
-    (told (record { orientation = b / 32; resolution = b % 32; s = valueOf (take (2 * (b % 32)) (allBits (drop 1 bytes))); used = codeLength (b % 32) })))
+    (told (readingOf (b / 32) (b % 32) (valueOf (take (2 * (b % 32)) (allBits (drop 1 bytes)))))))
 
 pub read-first : (bytes : List ℕ) → (length bytes ≡ 0 → ⊥) → getD bytes 0 0 < 256 → fromFirst (getD bytes 0 0) bytes ≡ looseOf bytes
 unfolding looseOf fromFirst allBits
@@ -98,13 +112,11 @@ module _ (bytes : List ℕ) where
       read-cut l = simp (lt-ltb _ _ (rw length-is at l)) (in-domain (getD bytes 0 0 / 32) (getD bytes 0 0 % 32) a ea m _) ∙ read-first bytes some (small 0 .fits)
 
       pub read-whole : used ≤ length bytes → {v spare : ℕ} → v ≡ valueOf (allBits (take (used - 1) (drop 1 bytes))) → spare ≡ spareBits (getD bytes 0 0 % 32)
-          → told (record { orientation = getD bytes 0 0 / 32; resolution = getD bytes 0 0 % 32; s = v / 2 ^ spare; used = used }) ≡ looseOf bytes
+          → {x : Reading} → x ≡ readingOf (getD bytes 0 0 / 32) (getD bytes 0 0 % 32) (v / 2 ^ spare) → told x ≡ looseOf bytes
       unfolding fromFirst
-      read-whole l e f =
-          ap₂ {C = Told Reading} (λ (p n : ℕ). told (record { orientation = getD bytes 0 0 / 32; resolution = getD bytes 0 0 % 32; s = p; used = n }))
-          (position-at (getD bytes 0 0 % 32) bytes used length-is l _ _ e f)
-          length-is
+      read-whole l e f x-is =
+          ap told (x-is ∙ ap (readingOf (getD bytes 0 0 / 32) (getD bytes 0 0 % 32)) (position-at (getD bytes 0 0 % 32) bytes used length-is l _ _ e f))
           ∙ simp (le-ltb _ _ (rw length-is at l)) (in-domain (getD bytes 0 0 / 32) (getD bytes 0 0 % 32) a ea m _)
           ∙ read-first bytes some (small 0 .fits)
 
-pub ruleset reading = (after-first, few-bytes, read-empty, read-outside, read-cut, read-whole)
+pub ruleset reading = (shallow, oriented, after-first, few-bytes, read-empty, read-outside, read-cut, read-whole)

@@ -14,13 +14,15 @@ use Rattle.triple.specs.declared.refusal.Refusal.{Refusal}
 use Rattle.triple.specs.declared.refusal.Refusal.the-variants as Is
 use Rattle.triple.specs.Refusals.{Told, told, refuse}
 use Rattle.triple.specs.Domain.{greatestResolution, greatestOrientation}
+use Rattle.triple.specs.Orientations.{isBackward}
 use Rattle.triple.specs.Lent.{countOf, afterCall}
 use Rattle.triple.proofs.DomainLaws.{domain-in}
 use Rattle.triple.proofs.RefusalLaws.{passed}
 use Rattle.triple.proofs.LentLaws.{wrote}
-use Rattle.code.specs.Codes.{bitsOf, valueOf, allBits, codeLength, codeBits, codeBytes, codeOf, spareOf, looseOf, readOf}
+use Rattle.code.specs.Codes.{bitsOf, valueOf, allBits, codeLength, codeBits, codeBytes, readingOf, codeOf, spareOf, looseOf, readOf}
 use Rattle.code.proofs.BitLaws.{length-bits, bits-zero, value-front}
 use Rattle.code.proofs.ByteLaws.{all-bits-append, bits-of-byte, bits-of-bytes}
+use Rattle.code.proofs.TurnLaws.{reading-current}
 use Rattle.code.proofs.CodeLaws.{code-bits, code-bytes, length-code, positionBytes, spareBits}
 
 bits-of-code : (o r s : ℕ) → allBits (codeBytes o r s) ≡ codeBits o r s
@@ -69,31 +71,46 @@ module _ (o r s : ℕ) (rest : List ℕ) where
   long = let e = length-append (codeBytes o r s) rest ∙ ap (λ (n : ℕ). n + length rest) (length-code o r s) in (λ z. omega (arith, e, z), omega arith)
 
   loose-back : o ≤ 5 → r ≤ 30 → s < 4 ^ r
-      → looseOf (codeBytes o r s ++ rest) ≡ told (record { orientation = o; resolution = r; s = s; used = codeLength r })
+      → looseOf (codeBytes o r s ++ rest) ≡ told (readingOf o r s)
   unfolding looseOf
   loose-back ho hr hs =
       rw (orientation-back ho, resolution-back hr, position-back hs) (simp (ne-eqb _ _ (long .0), le-ltb _ _ (long .1)) (sym (domain-in o r _ hr ho)))
 
   pub read-back : o ≤ 5 → r ≤ 30 → s < 4 ^ r
-      → readOf (codeBytes o r s ++ rest) ≡ told (record { orientation = o; resolution = r; s = s; used = codeLength r })
-  unfolding readOf
+      → readOf (codeBytes o r s ++ rest) ≡ told (readingOf o r s)
+  unfolding readOf readingOf
   read-back ho hr hs = rw (loose-back ho hr hs, spare-back)
 
 -- ---- over a buffer: what a writer has answered is what a reader finds
 -- of what is coded, all tests are passed
-pub coded : (o r s : ℕ) {code : List ℕ} → codeOf o r s ≡ told code → (r ≤ 30) × (o ≤ 5) × (s < 4 ^ r) × (code ≡ codeBytes o r s)
+pub record Coded (o r s : ℕ) (code : List ℕ) : Type 0 where
+  pub shallow : r ≤ 30
+  pub oriented : o ≤ 5
+  pub current : isBackward o ≡ false
+  pub below : s < 4 ^ r
+  pub bytes : code ≡ codeBytes o r s
+
+pub coded : (o r s : ℕ) {code : List ℕ} → codeOf o r s ≡ told code → Coded o r s code
 unfolding codeOf
 coded o r s p =
     let shallow = passed (ltb greatestResolution r) Is.Resolution p in
     let oriented = passed (ltb greatestOrientation o) Is.Orientation (shallow .1) in
-    let named = passed (leb (4 ^ r) s) Is.Position (oriented .1) in
-    (ltb-false 30 r (shallow .0), ltb-false 5 o (oriented .0), leb-false (4 ^ r) s (named .0), cc (named .1))
+    let current = passed (isBackward o) Is.Retired (oriented .1) in
+    let named = passed (leb (4 ^ r) s) Is.Position (current .1) in
+    record {
+      shallow = ltb-false 30 r (shallow .0);
+      oriented = ltb-false 5 o (oriented .0);
+      current = current .0;
+      below = leb-false (4 ^ r) s (named .0);
+      bytes = cc (named .1);
+    }
 
 pub written-read-back : (o r s : ℕ) (buffer : List ℕ) (n : ℕ) → countOf (codeOf o r s) buffer ≡ told n
-    → readOf (afterCall (codeOf o r s) buffer) ≡ told (record { orientation = o; resolution = r; s = s; used = n })
+    → readOf (afterCall (codeOf o r s) buffer) ≡ told (record { orientation = o; resolution = r; s = s; used = n; old = false })
 written-read-back o r s buffer n p =
     let w = wrote (codeOf o r s) buffer p in
     let c = coded o r s (w .gave) in
-    ap readOf (w .stored ∙ ap (λ (code : List ℕ). code ++ drop n buffer) (c .3))
-    ∙ read-back o r s (drop n buffer) (c .1) (c .0) (c .2)
-    ∙ ap (λ (k : ℕ). told (record { orientation = o; resolution = r; s = s; used = k })) (sym (length-code o r s) ∙ ap length (sym (c .3)) ∙ w .count)
+    ap readOf (w .stored ∙ ap (λ (code : List ℕ). code ++ drop n buffer) (c .bytes))
+    ∙ read-back o r s (drop n buffer) (c .oriented) (c .shallow) (c .below)
+    ∙ ap told (reading-current o r s (c .oriented) (c .current))
+    ∙ ap (λ (k : ℕ). told (record { orientation = o; resolution = r; s = s; used = k; old = false })) (sym (length-code o r s) ∙ ap length (sym (c .bytes)) ∙ w .count)

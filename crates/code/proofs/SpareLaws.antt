@@ -16,7 +16,7 @@ use Rattle.triple.specs.Domain.{greatestResolution, greatestOrientation}
 use Rattle.triple.proofs.RefusalLaws.{never, passed}
 use Rattle.code.specs.declared.Reading.{Reading}
 use Rattle.code.specs.declared.ReadAnswer.{ReadAnswer}
-use Rattle.code.specs.Codes.{bitsOf, valueOf, allBits, codeLength, spareOf, looseOf, readOf}
+use Rattle.code.specs.Codes.{bitsOf, valueOf, allBits, codeLength, readingOf, spareOf, looseOf, readOf}
 use Rattle.code.specs.Answers.{saidRead}
 use Rattle.code.proofs.BitLaws.{length-bits, bits-split, value-whole, value-front}
 use Rattle.code.proofs.ByteLaws.{number, all-bits, all-bits-append}
@@ -90,7 +90,7 @@ pub record Sized (bytes : List ℕ) (x : Reading) : Type 0 where
   pub count : x .used ≡ codeLength (x .resolution)
 
 pub loose-sized : (bytes : List ℕ) {x : Reading} → looseOf bytes ≡ told x → Sized bytes x
-unfolding looseOf
+unfolding looseOf readingOf
 loose-sized bytes {x} p =
     let o = valueOf (take 3 (allBits bytes)) in
     let r = valueOf (take 5 (drop 3 (allBits bytes))) in
@@ -98,7 +98,7 @@ loose-sized bytes {x} p =
     let shallow = passed (ltb greatestResolution r) Is.Resolution (some .1) in
     let oriented = passed (ltb greatestOrientation o) Is.Orientation (shallow .1) in
     let whole = passed (ltb (length bytes) (codeLength r)) Is.Code (oriented .1) in
-    let is : record { orientation = o; resolution = r; s = valueOf (take (2 * r) (drop 8 (allBits bytes))); used = codeLength r } ≡ x = cc (whole .1) in
+    let is : readingOf o r (valueOf (take (2 * r) (drop 8 (allBits bytes)))) ≡ x = cc (whole .1) in
     rw (← is) record { shallow = ltb-false 30 r (shallow .0); whole = ltb-false (length bytes) (codeLength r) (whole .0); count = refl }
 
 -- ---- the reader's answers, from what it has in hand

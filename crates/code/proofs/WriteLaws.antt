@@ -1,5 +1,6 @@
 -- What a writer answers, and its buffer afterwards, at each of its tests, in the form of what the code has in hand there; and the loop that writes.
 use mathlib.Core.Path.{_≡_, refl, sym, _∙_}
+use mathlib.Core.Bool.{false}
 use mathlib.Core.List.{List, _++_}
 use Prim.Native.Nat.{ℕ, _+_, _^_, _≤_, _<_}
 use native.Mathlib.Omega.{arith}
@@ -15,8 +16,10 @@ use Rattle.triple.specs.Answers.{saidDomain}
 use Rattle.triple.proofs.DomainLaws.{out-of-domain, in-domain, shallow, oriented, positions-are}
 use Rattle.triple.specs.Lent.{countOf, afterCall}
 use Rattle.triple.proofs.LentLaws.{refused-count, refused-kept, short-count, short-kept, whole-count, whole-stored}
-use Rattle.code.specs.Codes.{codeLength, codeBytes, codeOf}
+use Rattle.triple.specs.Orientations.{isBackward}
+use Rattle.code.specs.Codes.{codeLength, codeBytes, forwardOf, codeOf}
 use Rattle.code.proofs.CodeLaws.{length-code}
+use Rattle.code.proofs.TurnLaws.{retired, current}
 
 -- ---- the loop that writes: the code's first k bytes stand in the place of the buffer's
 pub record Put (code buffer : List ℕ) (k : ℕ) (out : List ℕ) : Type 0 where
@@ -51,43 +54,58 @@ module _ (o r s : ℕ) (buffer : List ℕ) where
       pub outside-left : buffer ≡ afterCall (codeOf o r s) buffer
       outside-left = refused-kept buffer outside
 
-    module _ (m : a ≡ DomainAnswer.In) {count : ℕ} (count-is : count ≡ positionCount r) where
-      positions : count ≡ 4 ^ r
-      positions = positions-are r (shallow o r a ea m) count-is
-
-      module _ (past : count ≤ s) where
-        beyond : refused (numberOf Is.Position) ≡ codeOf o r s
+    module _ (m : a ≡ DomainAnswer.In) {f : ℕ} (f-is : f ≡ forwardOf o) where
+      module _ (other : f ≡ o → ⊥) where
+        old : refused (numberOf Is.Retired) ≡ codeOf o r s
         unfolding codeOf
-        beyond = simp (le-leb (4 ^ r) s (rw positions at past)) (in-domain o r a ea m _)
+        old = simp (retired o (oriented o r a ea m) f-is other) (in-domain o r a ea m _)
 
-        pub past-refused : refused (numberOf Is.Position) ≡ countOf (codeOf o r s) buffer
-        past-refused = refused-count buffer beyond
+        pub old-refused : refused (numberOf Is.Retired) ≡ countOf (codeOf o r s) buffer
+        old-refused = refused-count buffer old
 
-        pub past-left : buffer ≡ afterCall (codeOf o r s) buffer
-        past-left = refused-kept buffer beyond
+        pub old-left : buffer ≡ afterCall (codeOf o r s) buffer
+        old-left = refused-kept buffer old
 
-      module _ (named : s < count) where
-        pub position-named : s < 4 ^ r
-        position-named = rw positions at named
+      module _ (same : f ≡ o) {count : ℕ} (count-is : count ≡ positionCount r) where
+        positions : count ≡ 4 ^ r
+        positions = positions-are r (shallow o r a ea m) count-is
 
-        given : told (codeBytes o r s) ≡ codeOf o r s
-        unfolding codeOf
-        given = simp (lt-leb (4 ^ r) s position-named) (in-domain o r a ea m _)
+        written : isBackward o ≡ false
+        written = current o (oriented o r a ea m) f-is same
 
-        module _ {used : ℕ} (length-is : used ≡ codeLength r) where
-          long : length (codeBytes o r s) ≡ used
-          long = length-code o r s ∙ sym length-is
+        module _ (past : count ≤ s) where
+          beyond : refused (numberOf Is.Position) ≡ codeOf o r s
+          unfolding codeOf
+          beyond = simp (written, le-leb (4 ^ r) s (rw positions at past)) (in-domain o r a ea m _)
 
-          pub short-refused : length buffer < used → refused (numberOf Is.Room) ≡ countOf (codeOf o r s) buffer
-          short-refused = short-count buffer given long
+          pub past-refused : refused (numberOf Is.Position) ≡ countOf (codeOf o r s) buffer
+          past-refused = refused-count buffer beyond
 
-          pub short-left : length buffer < used → buffer ≡ afterCall (codeOf o r s) buffer
-          short-left = short-kept buffer given long
+          pub past-left : buffer ≡ afterCall (codeOf o r s) buffer
+          past-left = refused-kept buffer beyond
 
-          pub whole-told : used ≤ length buffer → told used ≡ countOf (codeOf o r s) buffer
-          whole-told = whole-count buffer given long
+        module _ (named : s < count) where
+          given : told (codeBytes o r s) ≡ codeOf o r s
+          unfolding codeOf
+          given = simp (written, lt-leb (4 ^ r) s (rw positions at named)) (in-domain o r a ea m _)
 
-          pub whole-left : used ≤ length buffer → {out : List ℕ} → out ≡ codeBytes o r s ++ drop (codeLength r) buffer → out ≡ afterCall (codeOf o r s) buffer
-          whole-left room e = whole-stored buffer given long room (rw length-is e)
+          module _ {used : ℕ} (length-is : used ≡ codeLength r) where
+            long : length (codeBytes o r s) ≡ used
+            long = length-code o r s ∙ sym length-is
 
-pub ruleset writing = (shallow, oriented, position-named, outside-refused, outside-left, past-refused, past-left, short-refused, short-left, whole-told, whole-left)
+            pub short-refused : length buffer < used → refused (numberOf Is.Room) ≡ countOf (codeOf o r s) buffer
+            short-refused = short-count buffer given long
+
+            pub short-left : length buffer < used → buffer ≡ afterCall (codeOf o r s) buffer
+            short-left = short-kept buffer given long
+
+            pub whole-told : used ≤ length buffer → told used ≡ countOf (codeOf o r s) buffer
+            whole-told = whole-count buffer given long
+
+            pub whole-left : used ≤ length buffer → {out : List ℕ} → out ≡ codeBytes o r s ++ drop (codeLength r) buffer → out ≡ afterCall (codeOf o r s) buffer
+            whole-left room e = whole-stored buffer given long room (rw length-is e)
+
+    pub position-named : a ≡ DomainAnswer.In → {count : ℕ} → count ≡ positionCount r → s < count → s < 4 ^ r
+    position-named m count-is named = rw (positions-are r (shallow o r a ea m) count-is) at named
+
+pub ruleset writing = (shallow, oriented, position-named, outside-refused, outside-left, old-refused, old-left, past-refused, past-left, short-refused, short-left, whole-told, whole-left)

@@ -1,4 +1,5 @@
 -- The position code, through its bits: its bytes, what a writer does and what a reader answers.
+use mathlib.Core.Bool.{cond}
 use mathlib.Core.List.{List, [], _∷_, _++_}
 use Prim.Native.Nat.{ℕ, zero, suc, _+_, _-_, _*_, _/_, _%_, _^_, _<_}
 use lib.Dec.{leb, ltb, eqb}
@@ -6,6 +7,7 @@ use lib.ListN.{length, getD, take, drop, replicate}
 use Rattle.triple.specs.declared.refusal.Refusal.the-variants as Is
 use Rattle.triple.specs.Refusals.{Told, told, refused, refuse, _>>=_}
 use Rattle.triple.specs.Domain.{inDomain}
+use Rattle.triple.specs.Orientations.{isBackward, curvePlace}
 use Rattle.code.specs.declared.Reading.{Reading}
 
 -- ---- bits, the most significant first
@@ -42,13 +44,23 @@ codeBits o r s = bitsOf 3 o ++ (bitsOf 5 r ++ (bitsOf (2 * r) s ++ replicate (8 
 unfoldable pub codeBytes : ℕ → ℕ → ℕ → List ℕ
 codeBytes o r s = bytesOf (codeLength r) (codeBits o r s)
 
+-- ---- the orientations of codes: VU, WU and VW are written no more
+-- the orientation that runs the same curve forward: UV of VU, UW of WU, WV of VW
+unfoldable pub forwardOf : ℕ → ℕ
+forwardOf o = cond (eqb o 1) 0 (cond (eqb o 3) 2 (cond (eqb o 4) 5 o))
+
+-- what a code says of s in the orientation o: the same cell's place on the curve run forward, and whether it was turned
+unfoldable pub readingOf : ℕ → ℕ → ℕ → Reading
+readingOf o r s = record { orientation = forwardOf o; resolution = r; s = curvePlace o r s; used = codeLength r; old = isBackward o }
+
 -- ---- the writer
 -- THE CODE's bytes; Lent has how many are written, and the buffer afterwards
 unfoldable pub codeOf : ℕ → ℕ → ℕ → Told (List ℕ)
 codeOf o r s =
     inDomain o r
+    (refuse (isBackward o) Is.Retired
     (refuse (leb (4 ^ r) s) Is.Position
-    (told (codeBytes o r s)))
+    (told (codeBytes o r s))))
 
 -- ---- the reader; its tests in order: empty, resolution, orientation, cut short, spare bits
 -- what the code at the front says: spare bits and later bytes are not looked at
@@ -60,7 +72,7 @@ looseOf bytes =
     refuse (eqb (length bytes) 0) Is.Code
     (inDomain o r
     (refuse (ltb (length bytes) (codeLength r)) Is.Code
-    (told (record { orientation = o; resolution = r; s = valueOf (take (2 * r) (drop 8 bits)); used = codeLength r }))))
+    (told (readingOf o r (valueOf (take (2 * r) (drop 8 bits)))))))
 
 -- the number that the spare bits write, behind the 8 + 2 r bits of a code: 0 where all of them are zero
 unfoldable pub spareOf : ℕ → List ℕ → ℕ

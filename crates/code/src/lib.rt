@@ -6,7 +6,7 @@
 //
 //     ooorrrrr ssssssss .. ssssssss ss000000
 //
-//     ooo      the orientation, 0 to 5
+//     ooo      the orientation: 0 UV, 2 UW or 5 WV; in old codes also 1 VU, 3 WU or 4 VW
 //     rrrrr    the resolution, 0 to 30
 //     ss..     the position, below 4^r: two bits for each of its r digits, the highest digit first
 //     00..     spare bits to the end of the byte: 0, 2, 4 or 6 of them
@@ -18,24 +18,28 @@
 //   spelling (proofs/Canonical.antt).
 // - No byte past a code is written or looked at, so codes can stand one after another.
 // - What is written is read back (proofs/RoundTrip.antt).
+// - VU, WU and VW run the curves of UV, UW and WV backward, and are written no more. An old code of
+//   theirs is read as the same cell's place on the curve run forward, with a mark.
 ghost use mathlib.Core.Path.{_≡_};
 ghost use mathlib.Core.List.{_++_};
 ghost use Prim.Native.Nat.{_+_, _-_, _*_, _/_, _^_, _<_, _≤_};
 ghost use lib.ListN.{length, getD, drop};
 ghost use Rattle.triple.specs.Lent.{countOf, afterCall};
-ghost use Rattle.code.specs.Codes.{valueOf, allBits, codeLength, codeBytes, codeOf, spareOf, looseOf, readOf};
+ghost use Rattle.code.specs.Codes.{valueOf, allBits, codeLength, codeBytes, forwardOf, readingOf, codeOf, spareOf, looseOf, readOf};
 ghost use Rattle.code.specs.Answers.{saidWrite, saidRead};
 use triple::domain::DomainAnswer;
 use triple::domain::domain_of;
 use triple::domain::position_count;
+use triple::orientation::place_from;
 use triple::refusal::Refusal;
 
-// What a code says, and the count of bytes that it takes.
+// What a code says, the count of bytes that it takes, and whether it is an old one that was turned.
 pub struct Reading {
     pub orientation: u8,
     pub resolution: u8,
     pub s: u64,
     pub used: usize,
+    pub old: bool,
 }
 
 // The count of bytes written, or why none was.
@@ -56,6 +60,9 @@ pub fn write(orientation: u8, resolution: u8, s: u64, out: &mut [u8]) -> WriteAn
     let domain = domain_of(orientation, resolution);
     if let DomainAnswer::Refused(e) = domain {
         return WriteAnswer::Refused(e);
+    }
+    if forward_of(orientation) != orientation {
+        return WriteAnswer::Refused(Refusal::Retired);
     }
     if s >= position_count(resolution) {
         return WriteAnswer::Refused(Refusal::Position);
@@ -96,8 +103,8 @@ fn read_loose(bytes: &[u8]) -> ReadAnswer
     let first = bytes[0];
     let resolution = first % 32;
     let orientation = first / 32;
-    let domain = domain_of(orientation, resolution);
-    if let DomainAnswer::Refused(e) = domain {
+    let header = domain_of(orientation, resolution);
+    if let DomainAnswer::Refused(e) = header {
         return ReadAnswer::Refused(e);
     }
     let used = code_length(resolution);
@@ -105,12 +112,31 @@ fn read_loose(bytes: &[u8]) -> ReadAnswer
         return ReadAnswer::Refused(Refusal::Code);
     }
     let s = joined(&bytes[1..used]) >> spare_bits(resolution);
-    ReadAnswer::Read(Reading {
-        orientation,
+    ReadAnswer::Read(reading_of(orientation, resolution, s))
+}
+
+// What a code says of a position in its own orientation.
+fn reading_of(orientation: u8, resolution: u8, s: u64) -> Reading
+    requires { ⌜ (orientation ≤ 5) × (resolution ≤ 30) ⌝ }
+    ensures { λ x. ⌜ x ≡ readingOf orientation resolution s ⌝ }
+{
+    let forward = forward_of(orientation);
+    let old = forward != orientation;
+    Reading {
+        orientation: forward,
         resolution,
-        s,
-        used,
-    })
+        s: place_from(old, position_count(resolution), s),
+        used: code_length(resolution),
+        old,
+    }
+}
+
+// The orientation that runs the same curve forward, read off a word.
+fn forward_of(orientation: u8) -> u8
+    requires { ⌜ orientation ≤ 5 ⌝ }
+    ensures { λ f. ⌜ f ≡ forwardOf orientation ⌝ }
+{
+    ((0b101_101_010_010_000_000u64 >> (3 * orientation)) % 8) as u8
 }
 
 // The count of bytes after the first.

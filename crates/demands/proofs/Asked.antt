@@ -11,7 +11,8 @@ use Rattle.demands.proofs.Rounded.{points}
 use Rattle.demands.proofs.Drawn.{grammar}
 use Rattle.demands.proofs.Sketched.{drawing-refusals, drawings}
 use Rattle.demands.proofs.ReadBack.{code}
-use Rattle.demands.proofs.Spelled.{code-spelling}
+use Rattle.demands.proofs.Turned.{code-read}
+use Rattle.demands.proofs.WholeCodes.{whole-codes}
 use Rattle.demands.proofs.Folded.{folding, unfolds}
 use Rattle.demands.proofs.TwelveCases.{dozen}
 
@@ -29,7 +30,8 @@ demands = record {
   drawing-refusals = drawing-refusals;
   drawings = drawings;
   codes = code;
-  code-spelling = code-spelling;
+  codes-read = code-read;
+  whole-codes = whole-codes;
   folds = folding;
   fold-empty = empty-folds;
   unfolds = unfolds;

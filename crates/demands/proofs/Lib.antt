@@ -25,8 +25,10 @@ pub mod Sketched
 -- ---- codes
 -- a code that was written reads back
 pub mod ReadBack
--- and has one spelling
-pub mod Spelled
+-- an old code names the cell that it named
+pub mod Turned
+-- codes from their first byte to their last
+pub mod WholeCodes
 -- ---- folding
 -- what a fold is, and that unfolding undoes it
 pub mod Folded

@@ -14,7 +14,7 @@ use Rattle.demands.specs.Demands.{Code}
 
 module _ (o r s : ℕ) (buffer : List ℕ) (n : ℕ) (e : countOf (codeOf o r s) buffer ≡ told n) where
   count : n ≡ codeLength r
-  count = let w = wrote (codeOf o r s) buffer e in sym (w .count) ∙ ap length (coded o r s (w .gave) .3) ∙ length-code o r s
+  count = let w = wrote (codeOf o r s) buffer e in sym (w .count) ∙ ap length (coded o r s (w .gave) .bytes) ∙ length-code o r s
 
   past : drop n (afterCall (codeOf o r s) buffer) ≡ drop n buffer
   past = let w = wrote (codeOf o r s) buffer e in ap (drop n) (w .stored) ∙ drop-at (w .values) _ n (w .count)

@@ -16,7 +16,7 @@ use Rattle.triple.specs.declared.Triple.{Triple}
 use Rattle.triple.specs.declared.refusal.Refusal.the-variants as Is
 use Rattle.triple.specs.Refusals.{Told, told, refused, numberOf, refuse, _>>=_}
 use Rattle.triple.specs.Triples.{goodSum, inBounds, parityOf, flavorOf}
-use Rattle.triple.specs.Orientations.{curvePlace}
+use Rattle.triple.specs.Orientations.{isBackward, curvePlace}
 use Rattle.triple.specs.Domain.{domainOf}
 use Rattle.triple.specs.Lent.{valued, countOf}
 use Rattle.turtle.specs.declared.AB.{AB}
@@ -180,12 +180,13 @@ drawing o r buffer =
     let n = neither (eqb r 0) (ltb 6 r) p in by-answer (cells-told o r (ltb-false 5 o h) (eqb-false r 0 (n .0)) (ltb-false 6 r (n .1))))
 
 -- ---- codes
-writing : (o r s : ℕ) (buffer : List ℕ) → AnsweredOr (1 ∷ 2 ∷ 3 ∷ 10 ∷ []) (countOf (codeOf o r s) buffer)
+writing : (o r s : ℕ) (buffer : List ℕ) → AnsweredOr (1 ∷ 2 ∷ 28 ∷ 3 ∷ 10 ∷ []) (countOf (codeOf o r s) buffer)
 unfolding codeOf numberOf
 writing o r s buffer =
     by-room buffer tt
     (by-test (ltb 30 r) Is.Resolution tt λ k.
     by-test (ltb 5 o) Is.Orientation tt λ h.
+    by-test (isBackward o) Is.Retired tt λ b.
     by-test (leb (4 ^ r) s) Is.Position tt λ l. answer)
 
 reading : (bytes : List ℕ) → AnsweredOr (11 ∷ 1 ∷ 2 ∷ 24 ∷ []) (readOf bytes)

@@ -3,7 +3,7 @@
 use mathlib.Core.Path.{_≡_}
 use mathlib.Core.Logic.{_↔_}
 use mathlib.Core.Bool.{Bool, true, false, _||_}
-use mathlib.Core.List.{List, [], _∷_}
+use mathlib.Core.List.{List, [], _∷_, _++_}
 use Prim.Native.Nat.{ℕ, _+_, _-_, _*_, _/_, _%_, _^_, _<_, _≤_}
 use lib.Dec.{T, eqb}
 use lib.IntN.{ℤ}
@@ -13,6 +13,7 @@ use Rattle.triple.specs.declared.Triple.{Triple}
 use Rattle.triple.specs.Refusals.{Told, told, refused, _>>=_}
 use Rattle.triple.specs.Triples.{inBounds, parityOf, closedFlavor, flavorOf}
 use Rattle.triple.specs.Domain.{domainOf}
+use Rattle.triple.specs.Orientations.{isBackward}
 use Rattle.triple.specs.Lent.{valued, countOf, afterCall, Called, CalledBoth}
 use Rattle.turtle.specs.declared.AB.{AB}
 use Rattle.turtle.specs.declared.walk.DrawnCell.{DrawnCell}
@@ -37,7 +38,7 @@ use Rattle.nodes.specs.NodeWalks.{walkedNode, lastStep}
 use Rattle.curve.specs.declared.PointCell.{PointCell}
 use Rattle.curve.specs.Points.{floor, parity, clamped, settled, ownTriple, pointOf}
 use Rattle.code.specs.declared.Reading.{Reading}
-use Rattle.code.specs.Codes.{codeOf, readOf, Bytes}
+use Rattle.code.specs.Codes.{codeLength, codeBytes, forwardOf, codeOf, readOf, Bytes}
 use Rattle.fold.specs.Cells.{Cell as WholeCell, Covered, cellsIn}
 use Rattle.fold.specs.Folds.{has, ascending, foldCall}
 use Rattle.fold.specs.Unfolds.{apart, unfoldCall}
@@ -97,7 +98,7 @@ pub record Refusals : Type 0 where
   -- the curve drawn into a buffer
   pub drawing : (o r : ℕ) (buffer : List ℤ) → AnsweredOr (23 ∷ 2 ∷ 10 ∷ []) (countOf (drawCall o r) buffer)
   -- a code written
-  pub writing : (o r s : ℕ) (buffer : List ℕ) → AnsweredOr (1 ∷ 2 ∷ 3 ∷ 10 ∷ []) (countOf (codeOf o r s) buffer)
+  pub writing : (o r s : ℕ) (buffer : List ℕ) → AnsweredOr (1 ∷ 2 ∷ 28 ∷ 3 ∷ 10 ∷ []) (countOf (codeOf o r s) buffer)
   -- a code read: 11 where it is empty, and after 2 where it is cut short
   pub reading : (bytes : List ℕ) → AnsweredOr (11 ∷ 1 ∷ 2 ∷ 24 ∷ []) (readOf bytes)
   -- a list of positions folded
@@ -233,8 +234,19 @@ pub record Code (o r s : ℕ) (buffer : List ℕ) (n : ℕ) : Type 0 where
   pub long : n ≡ 1 + (r + 3) / 4
   -- no byte past it is touched
   pub past : drop n (afterCall (codeOf o r s) buffer) ≡ drop n buffer
-  -- it reads back, whatever follows it
-  pub back : readOf (afterCall (codeOf o r s) buffer) ≡ told (record { orientation = o; resolution = r; s = s; used = n })
+  -- it reads back, whatever follows it, and without the mark
+  pub back : readOf (afterCall (codeOf o r s) buffer) ≡ told (record { orientation = o; resolution = r; s = s; used = n; old = false })
+
+-- a code as it is read, of s in the orientation o at resolution r, whoever wrote it and whatever follows it
+pub record CodeRead (o r s : ℕ) : Type 0 where
+  -- of UV, UW or WV: as it stands, without the mark
+  pub kept : isBackward o ≡ false → (rest : List ℕ) → readOf (codeBytes o r s ++ rest) ≡ told (record { orientation = o; resolution = r; s = s; used = codeLength r; old = false })
+  -- of VU, WU or VW: in the orientation that runs the same curve forward, with 4 ^ r - 1 - s, and the mark
+  pub turned : isBackward o ≡ true → (rest : List ℕ) → readOf (codeBytes o r s ++ rest) ≡ told (record { orientation = forwardOf o; resolution = r; s = 4 ^ r - 1 - s; used = codeLength r; old = true })
+  -- which is one that is written
+  pub forward : isBackward (forwardOf o) ≡ false
+  -- and names the cell that the code's own orientation and position do
+  pub cell : isBackward o ≡ true → cellOf (forwardOf o) r (4 ^ r - 1 - s) ≡ cellOf o r s
 
 -- a whole code: bytes that are read, and used to the last of them
 pub record WholeCode (bytes : List ℕ) (x : Reading) : Type 0 where
@@ -242,9 +254,18 @@ pub record WholeCode (bytes : List ℕ) (x : Reading) : Type 0 where
   pub reads : readOf bytes ≡ told x
   pub used : x .used ≡ length bytes
 
-pub record CodeSpelling : Type 0 where
-  -- two whole codes have one orientation, one resolution and one position exactly when their bytes are the same
-  pub one : (a b : List ℕ) (x y : Reading) → WholeCode a x → WholeCode b y → ((x .orientation ≡ y .orientation) × (x .resolution ≡ y .resolution) × (x .s ≡ y .s)) ↔ (a ≡ b)
+-- two readings with one orientation, one resolution and one position
+abbrev pub Alike : Reading → Reading → Type 0
+Alike x y = (x .orientation ≡ y .orientation) × (x .resolution ≡ y .resolution) × (x .s ≡ y .s)
+
+pub record WholeCodes : Type 0 where
+  -- a whole code is the code of a position in some orientation
+  pub own : (bytes : List ℕ) (x : Reading) → WholeCode bytes x → (o s : ℕ) × (o ≤ 5) × (s < 4 ^ x .resolution) × (codeBytes o (x .resolution) s ≡ bytes)
+  -- without the mark, two are read alike exactly when their bytes are the same
+  pub one : (a b : List ℕ) (x y : Reading) → WholeCode a x → WholeCode b y → x .old ≡ false → y .old ≡ false → Alike x y ↔ (a ≡ b)
+  -- marked or not, two that are read alike name the same cell by their own orientations and positions
+  pub same-cell : (o r s p q t : ℕ) (x y : Reading) → o ≤ 5 → r ≤ 30 → s < 4 ^ r → p ≤ 5 → q ≤ 30 → t < 4 ^ q
+      → WholeCode (codeBytes o r s) x → WholeCode (codeBytes p q t) y → Alike x y → cellOf o r s ≡ cellOf p q t
 
 -- ---- folding: of a list of positions at resolution r that is folded to these pairs
 pub record Folding (o r : ℕ) (positions pairs : List ℕ) : Type 0 where
@@ -315,8 +336,10 @@ pub record Demands : Type 1 where
   pub drawings : (o r : ℕ) (buffer : List ℤ) → 1 ≤ r → r ≤ 6 → o ≤ 5 → 4 * 4 ^ r ≤ length buffer → Drawing o r buffer
   -- for everything that the writer answers, whatever its buffer held
   pub codes : (o r s : ℕ) (buffer : List ℕ) (n : ℕ) → countOf (codeOf o r s) buffer ≡ told n → Code o r s buffer n
-  -- for every two lists of bytes
-  pub code-spelling : CodeSpelling
+  -- for every position in every orientation
+  pub codes-read : (o r s : ℕ) → o ≤ 5 → r ≤ 30 → s < 4 ^ r → CodeRead o r s
+  -- for every list of bytes
+  pub whole-codes : WholeCodes
   -- for every list that is folded
   pub folds : (o r : ℕ) (positions pairs : List ℕ) → foldCall o r positions ≡ told pairs → Folding o r positions pairs
   -- the empty list folds to the empty list

@@ -159,7 +159,8 @@ fn put_reading(out: &mut [u8], r: Reading) -> usize
     let after_o = put_natural(out, 0, r.orientation as u64);
     let after_r = put_next_natural(out, after_o, r.resolution as u64);
     let after_s = put_next_natural(out, after_r, r.s);
-    let end = put_next_natural(out, after_s, r.used as u64);
+    let after_used = put_next_natural(out, after_s, r.used as u64);
+    let end = put_next_natural(out, after_used, r.old as u64);
     length_of(out.len(), end)
 }
 

@@ -22,4 +22,5 @@ read-loose-spec =
     (λ c κs. search (needs, reading))
     (λ c κs. search needs)
     (λ c. search needs)
+    (λ c κs. search (needs, reading))
     (λ c. search (needs, reading)))

@@ -12,6 +12,8 @@ write-spec =
     (λ c. search needs)
     (λ c. search (needs, writing))
     (λ c. search needs)
+    (λ c κs. search (needs, writing))
+    (λ c. search (needs, writing))
     (λ c κs. search needs)
     (λ c. search (needs, writing))
     (λ c κs. search needs)
