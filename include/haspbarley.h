@@ -162,6 +162,20 @@ uint8_t hb_fold(uint8_t orientation, uint8_t resolution, const uint64_t *positio
 uint8_t hb_unfold(uint8_t orientation, uint8_t resolution, const uint64_t *pairs, size_t pairs_len,
                   uint64_t *positions, size_t positions_len, uint64_t *count, size_t count_len);
 
+/* Mends a list of codes that stand one after another: sound codes are copied, spare bits are cleared, old
+ * codes are turned forward, and a byte where no code can be read is dropped.
+ * Values: the mended list to out, and its length and the number of changes (2) to counts; both or, on a
+ * refusal, neither. Bytes of out past the mended list stay as they were.
+ * Refusals: 10, where out is shorter than the list or counts than its values. */
+uint8_t hb_mend(const uint8_t *list, size_t list_len, uint8_t *out, size_t out_len, uint64_t *counts, size_t counts_len);
+
+/* The first step of mending what is left of a list: go on behind the bytes taken and those written.
+ * Values: what is written for the code or byte at the front to out, at most HB_CODE_BYTES; bytes taken,
+ * bytes written and the change (3) to counts: 0 for a sound code, 1 where spare bits were cleared, 2 where
+ * an old code was turned, 3 where both, spare first, 4 where a byte was dropped. Of nothing: 0 0 0.
+ * Refusals: 10, where out is shorter than what is written or counts than its values. */
+uint8_t hb_mend_step(const uint8_t *rest, size_t rest_len, uint8_t *out, size_t out_len, uint64_t *counts, size_t counts_len);
+
 /* The answer to one query line, of at most HB_LINE_BYTES without LF, as the program wedge prints it,
  * without LF: at most HB_ANSWER_BYTES. A line that is refused has an answer too, '!' and the number.
  * Values: the answer to text, and its length (1) to out; both or, on a refusal, neither. Refusals: 10. */

@@ -152,6 +152,30 @@ static void old_code(void)
     cell(0, 2, 9);
 }
 
+/* A list of a sound code, one with a spare bit set, an old one, a byte that begins none, one with both faults,
+ * and one cut short. Each step's offset, numbers and bytes; then the whole at once. */
+static void mend(void)
+{
+    static const uint8_t list[] = {0x02, 0x60, 0xA1, 0xC1, 0x22, 0x60, 0xFF, 0x81, 0xC1, 0xBE};
+    uint8_t out[sizeof list];
+    uint64_t counts[3];
+    for (size_t at = 0; at < sizeof list; at += (size_t)counts[0]) {
+        uint8_t status = hb_mend_step(list + at, sizeof list - at, out, HB_CODE_BYTES, counts, 3);
+        printf("mend at %zu: %d, %" PRIu64 " %" PRIu64 " %" PRIu64, at, status, counts[0], counts[1], counts[2]);
+        for (uint64_t k = 0; k < counts[1]; k++)
+            printf(" %02X", out[k]);
+        printf("\n");
+    }
+    uint8_t status = hb_mend(list, sizeof list, out, sizeof out, counts, 2);
+    printf("mended: %d, %" PRIu64 " bytes, %" PRIu64 " changes:", status, counts[0], counts[1]);
+    for (uint64_t k = 0; k < counts[0]; k++)
+        printf(" %02X", out[k]);
+    printf("\n");
+    counts[0] = 7;
+    status = hb_mend(list, sizeof list, out, sizeof out - 1, counts, 2);
+    printf("mended into one byte less: ! %d, count left %" PRIu64 "\n", status, counts[0]);
+}
+
 /* A table of one motif that no compiler wrote: each of its four states has itself for its children. */
 static int32_t by_hand[4 * HB_STATE_NUMBERS];
 
@@ -296,6 +320,7 @@ int main(void)
     code(5, 1, 4);
     code(4, 1, 3);
     old_code();
+    mend();
     folds();
     write_by_hand();
     descend(4, 1, 0, 3);

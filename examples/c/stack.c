@@ -33,6 +33,8 @@ static void code_write(void) { hb_code_write(5, 30, LAST, bytes, HB_CODE_BYTES, 
 static void code_read(void) { hb_code_read(bytes, HB_CODE_BYTES, out, 5); }
 static void fold(void) { hb_fold(5, 30, run, 16, run + 16, 32, out, 4); }
 static void unfold(void) { hb_unfold(5, 30, run + 48, 2, run, 64, out, 4); }
+static void mend(void) { hb_mend(bytes, HB_CODE_BYTES, text, HB_ANSWER_BYTES, out, 2); }
+static void mend_step(void) { hb_mend_step(bytes, HB_CODE_BYTES, text, HB_ANSWER_BYTES, out, 3); }
 static void descend(void) { hb_descend(table, HB_TABLE_NUMBERS, 28, 30, 13, LAST, sums, 3); }
 static void compile(void) { hb_compile((const uint8_t *)A5, sizeof A5 - 1, table, HB_TABLE_NUMBERS, out, 4); }
 
@@ -61,6 +63,8 @@ static const struct {
     {"hb_code_read", code_read, 512},
     {"hb_fold", fold, 512},
     {"hb_unfold", unfold, 512},
+    {"hb_mend", mend, 512},
+    {"hb_mend_step", mend_step, 512},
     {"hb_descend", descend, 512},
 };
 

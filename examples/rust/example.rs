@@ -71,6 +71,22 @@ mod ffi {
             count_len: usize,
         ) -> u8;
         pub fn hb_code_read(bytes: *const u8, bytes_len: usize, out: *mut u64, out_len: usize) -> u8;
+        pub fn hb_mend(
+            list: *const u8,
+            list_len: usize,
+            out: *mut u8,
+            out_len: usize,
+            counts: *mut u64,
+            counts_len: usize,
+        ) -> u8;
+        pub fn hb_mend_step(
+            rest: *const u8,
+            rest_len: usize,
+            out: *mut u8,
+            out_len: usize,
+            counts: *mut u64,
+            counts_len: usize,
+        ) -> u8;
         pub fn hb_descend(
             table: *const i32,
             table_len: usize,
@@ -159,6 +175,18 @@ mod haspbarley {
 
     pub fn code_read(bytes: &[u8], out: &mut [u64]) -> u8 {
         unsafe { ffi::hb_code_read(bytes.as_ptr(), bytes.len(), out.as_mut_ptr(), out.len()) }
+    }
+
+    pub fn mend(list: &[u8], out: &mut [u8], counts: &mut [u64]) -> u8 {
+        unsafe {
+            ffi::hb_mend(list.as_ptr(), list.len(), out.as_mut_ptr(), out.len(), counts.as_mut_ptr(), counts.len())
+        }
+    }
+
+    pub fn mend_step(rest: &[u8], out: &mut [u8], counts: &mut [u64]) -> u8 {
+        unsafe {
+            ffi::hb_mend_step(rest.as_ptr(), rest.len(), out.as_mut_ptr(), out.len(), counts.as_mut_ptr(), counts.len())
+        }
     }
 
     pub fn compile(text: &[u8], table: &mut [i32], out: &mut [u64]) -> u16 {
@@ -279,6 +307,26 @@ fn old_code() {
     println!("old code 22 60: {status}, reads {}", gives(status, &out));
     cell(1, 2, 6);
     cell(0, 2, 9);
+}
+
+/// A list of a sound code, one with a spare bit set, an old one, a byte that begins none, one with both faults,
+/// and one cut short. Each step's offset, numbers and bytes; then the whole at once.
+fn mend() {
+    let list = [0x02, 0x60, 0xA1, 0xC1, 0x22, 0x60, 0xFF, 0x81, 0xC1, 0xBE];
+    let bytes = |out: &[u8]| out.iter().map(|b| format!(" {b:02X}")).collect::<String>();
+    let (mut out, mut counts) = ([0; 10], [0; 3]);
+    let mut at = 0;
+    while at < list.len() {
+        let status = haspbarley::mend_step(&list[at..], &mut out, &mut counts);
+        let [taken, written, change] = counts;
+        println!("mend at {at}: {status}, {taken} {written} {change}{}", bytes(&out[..written as usize]));
+        at += taken as usize;
+    }
+    let status = haspbarley::mend(&list, &mut out, &mut counts);
+    println!("mended: {status}, {} bytes, {} changes:{}", counts[0], counts[1], bytes(&out[..counts[0] as usize]));
+    counts[0] = 7;
+    let status = haspbarley::mend(&list, &mut out[..9], &mut counts);
+    println!("mended into one byte less: ! {status}, count left {}", counts[0]);
 }
 
 /// A list of positions at resolution 3 folded, and unfolded again.
@@ -405,6 +453,7 @@ fn main() {
     code(5, 1, 4);
     code(4, 1, 3);
     old_code();
+    mend();
     folds();
     let table = by_hand();
     descend(&table, 4, 1, 0, 3);

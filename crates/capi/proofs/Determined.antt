@@ -7,7 +7,7 @@ use lib.Ieee.{Float}
 use Rattle.triple.specs.Refusals.{Told}
 use Rattle.triple.specs.Lent.{Called, CalledBoth}
 use Rattle.sketch.specs.Drawings.{drawCall}
-use Rattle.capi.specs.Calls.{cellCall, positionCall, nodeCall, stepCall, pointCall, cornerCall, tripleCall, writeCall, readCall, foldedCall, unfoldedCall, lineCall, descendCall, CompileCalled}
+use Rattle.capi.specs.Calls.{cellCall, positionCall, nodeCall, stepCall, pointCall, cornerCall, tripleCall, writeCall, readCall, foldedCall, unfoldedCall, mendBoth, mendStepBoth, lineCall, descendCall, CompileCalled}
 
 -- ---- whatever the call gives
 module _ {A : Type 0} (call : Told (List A)) (slice : List A) where
@@ -60,6 +60,14 @@ hb-fold-determined o r positions = called-both-once (foldedCall o r positions)
 pub hb-unfold-determined : (o r : ℕ) (pairs positions count : List ℕ) (m n : ℕ) (v w x y : List ℕ)
     → CalledBoth (unfoldedCall o r pairs) positions count m v x → CalledBoth (unfoldedCall o r pairs) positions count n w y → (m ≡ n) × (v ≡ w) × (x ≡ y)
 hb-unfold-determined o r pairs = called-both-once (unfoldedCall o r pairs)
+
+pub hb-mend-determined : (list out counts : List ℕ) (m n : ℕ) (v w x y : List ℕ)
+    → CalledBoth (mendBoth list out) out counts m v x → CalledBoth (mendBoth list out) out counts n w y → (m ≡ n) × (v ≡ w) × (x ≡ y)
+hb-mend-determined list out = called-both-once (mendBoth list out) out
+
+pub hb-mend-step-determined : (rest out counts : List ℕ) (m n : ℕ) (v w x y : List ℕ)
+    → CalledBoth (mendStepBoth rest) out counts m v x → CalledBoth (mendStepBoth rest) out counts n w y → (m ≡ n) × (v ≡ w) × (x ≡ y)
+hb-mend-step-determined rest = called-both-once (mendStepBoth rest)
 
 pub hb-line-determined : (line text out : List ℕ) (m n : ℕ) (v w x y : List ℕ) → CalledBoth (lineCall line) text out m v x → CalledBoth (lineCall line) text out n w y → (m ≡ n) × (v ≡ w) × (x ≡ y)
 hb-line-determined line = called-both-once (lineCall line)

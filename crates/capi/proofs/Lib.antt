@@ -5,6 +5,9 @@ pub mod SignedLaws
 pub mod GivenLaws
 -- a status by the count that an operation answers
 pub mod CountedLaws
+-- ---- mending
+-- values to one slice, and a few numbers of how many they are to another
+pub mod MendLaws
 -- ---- the compiler's call
 -- faults and lines are few, so that both go into a status
 pub mod FaultLaws

@@ -24,6 +24,10 @@ use Rattle.code.specs.declared.Reading.{Reading}
 use Rattle.code.specs.Codes.{codeOf, readOf}
 use Rattle.fold.specs.Folds.{foldCall}
 use Rattle.fold.specs.Unfolds.{unfoldCall}
+use Rattle.mend.specs.declared.Change.{Change}
+use Rattle.mend.specs.declared.Stepped.{Stepped}
+use Rattle.mend.specs.declared.Tally.{Tally}
+use Rattle.mend.specs.Mends.{pieceOf, changesOf, mendCall}
 use Rattle.query.specs.Lines.{answerLine}
 use Rattle.grammar.specs.Texts.{linesOf}
 use Rattle.grammar.specs.Curves.{tokenBytes}
@@ -122,6 +126,30 @@ foldedCall o r positions = counting (λ n. n / 2) (foldCall o r positions)
 -- the positions that pairs cover, and how many they are
 abbrev pub unfoldedCall : ℕ → ℕ → List ℕ → Told (List ℕ × List ℕ)
 unfoldedCall o r pairs = counting (λ n. n) (unfoldCall o r pairs)
+
+-- written changes
+abbrev pub tallyValues : Tally → List ℕ
+tallyValues t = t .written ∷ t .changes ∷ []
+
+-- the mended list, where `out` is as long as the list; its length and the number of changes
+abbrev pub mendBoth : List ℕ → List ℕ → Told (List ℕ × List ℕ)
+mendBoth list out = valued (λ bytes. (bytes, tallyValues (record { written = length bytes; changes = length (changesOf list) }))) (mendCall list out)
+
+-- a change by its number
+unfoldable pub changeNumber : Change → ℕ
+changeNumber Change.Kept = 0
+changeNumber Change.Spare = 1
+changeNumber Change.Turned = 2
+changeNumber Change.Both = 3
+changeNumber Change.Dropped = 4
+
+-- taken written change
+abbrev pub steppedValues : Stepped → List ℕ
+steppedValues x = x .taken ∷ x .written ∷ changeNumber (x .change) ∷ []
+
+-- what the first step of mending writes; how many bytes it takes and writes, and the change
+abbrev pub mendStepBoth : List ℕ → Told (List ℕ × List ℕ)
+mendStepBoth rest = valued (λ bytes. (bytes, steppedValues (record { taken = pieceOf rest .taken; written = length bytes; change = pieceOf rest .change }))) (told (pieceOf rest .bytes))
 
 -- the answer to a line as the program prints it, without LF, and its length
 abbrev pub lineCall : List ℕ → Told (List ℕ × List ℕ)

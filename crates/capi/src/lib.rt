@@ -10,7 +10,7 @@ ghost use mathlib.Core.Bool.{cond};
 ghost use Prim.Native.Nat.{_+_, _*_, _<_, _≤_};
 ghost use lib.Dec.{ltb};
 ghost use Rattle.triple.specs.Lent.{statusOf, afterCall, firstOf, secondOf};
-ghost use Rattle.capi.specs.Calls.{cellCall, positionCall, nodeCall, stepCall, pointCall, cornerCall, tripleCall, readCall, writeCall, foldedCall, unfoldedCall, lineCall, descendCall, compileCall, compileStatus};
+ghost use Rattle.capi.specs.Calls.{cellCall, positionCall, nodeCall, stepCall, pointCall, cornerCall, tripleCall, readCall, writeCall, foldedCall, unfoldedCall, mendBoth, mendStepBoth, lineCall, descendCall, compileCall, compileStatus};
 ghost use Rattle.capi.specs.Inside.Given.{clipped, frameClipped};
 ghost use Rattle.triple.specs.Refusals.{numberOf};
 ghost use Rattle.sketch.specs.Drawings.{drawCall};
@@ -22,6 +22,8 @@ use fold::folding::FoldAnswer;
 use fold::unfolding::UnfoldAnswer;
 use lsystem::cell::CellAnswer;
 use lsystem::lookup::PositionAnswer;
+use mend::MendAnswer;
+use mend::StepAnswer;
 use nodes::ChildAnswer;
 use nodes::Frame;
 use nodes::Node;
@@ -35,6 +37,8 @@ use put::put_point;
 use put::put_position;
 use put::put_reading;
 use put::put_step;
+use put::put_stepped;
+use put::put_tally;
 use put::put_triple;
 use query::print::PrintAnswer;
 use sketch::DrawAnswer;
@@ -275,6 +279,38 @@ pub extern "C" fn hb_unfold(
     match answer {
         UnfoldAnswer::Unfolded(covered) => put_count(covered, count),
         UnfoldAnswer::Refused(e) => e.number(),
+    }
+}
+
+// Mends a list of codes to `out`, which is as long as the list, and puts the length of the mended list and
+// the number of changes to `counts`.
+#[no_mangle]
+pub extern "C" fn hb_mend(list: &[u8], out: &mut [u8], counts: &mut [u64]) -> u8
+    ensures { λ n. ⌜ (n ≡ statusOf (firstOf (mendBoth (now (list .entry)) (now (out .entry))) (now (counts .entry))) (now (out .entry))) × (now (out .exit) ≡ afterCall (firstOf (mendBoth (now (list .entry)) (now (out .entry))) (now (counts .entry))) (now (out .entry))) × (now (counts .exit) ≡ afterCall (secondOf (mendBoth (now (list .entry)) (now (out .entry))) (now (out .entry))) (now (counts .entry))) ⌝ }
+{
+    if counts.len() < 2 {
+        return Refusal::Room.number();
+    }
+    let answer = mend::mend(list, out);
+    match answer {
+        MendAnswer::Mended(t) => put_tally(t, counts),
+        MendAnswer::Refused(e) => e.number(),
+    }
+}
+
+// The first step of mending what is left of a list: what it writes to `out`, and to `counts` how many
+// bytes it takes, how many it writes and the change's number.
+#[no_mangle]
+pub extern "C" fn hb_mend_step(rest: &[u8], out: &mut [u8], counts: &mut [u64]) -> u8
+    ensures { λ n. ⌜ (n ≡ statusOf (firstOf (mendStepBoth (now (rest .entry))) (now (counts .entry))) (now (out .entry))) × (now (out .exit) ≡ afterCall (firstOf (mendStepBoth (now (rest .entry))) (now (counts .entry))) (now (out .entry))) × (now (counts .exit) ≡ afterCall (secondOf (mendStepBoth (now (rest .entry))) (now (out .entry))) (now (counts .entry))) ⌝ }
+{
+    if counts.len() < 3 {
+        return Refusal::Room.number();
+    }
+    let answer = mend::step(rest, out);
+    match answer {
+        StepAnswer::Taken(x) => put_stepped(x, counts),
+        StepAnswer::Refused(e) => e.number(),
     }
 }
 

@@ -6,12 +6,15 @@ ghost use Prim.Native.Nat.{_≤_};
 ghost use Rattle.descent.specs.Answers.{saidLeaf};
 ghost use Rattle.triple.specs.Lent.{statusOf, afterCall, firstOf, secondOf};
 ghost use Rattle.lsystem.specs.Cells.{cellValues};
-ghost use Rattle.capi.specs.Calls.{tripleValues, pointValues, positionValues, nodeValues, stepValues, pairValues, drawnValues, countValues, readingValues};
+ghost use Rattle.capi.specs.Calls.{tripleValues, pointValues, positionValues, nodeValues, stepValues, pairValues, drawnValues, countValues, readingValues, tallyValues, changeNumber, steppedValues};
 use code::Reading;
 use curve::PointCell;
 use descent::TableCell;
 use lsystem::Position;
 use lsystem::cell::Cell;
+use mend::Change;
+use mend::Stepped;
+use mend::Tally;
 use nodes::ChildStep;
 use nodes::Node;
 use triple::Triple;
@@ -200,4 +203,43 @@ pub(crate) fn put_reading(r: Reading, out: &mut [u64]) -> u8
     out[3] = r.used as u64;
     out[4] = r.old as u64;
     0
+}
+
+// written changes
+pub(crate) fn put_tally(t: Tally, out: &mut [u64]) -> u8
+    ensures { λ n. ⌜ (n ≡ statusOf (told (tallyValues t)) (now (out .entry))) × (now (out .exit) ≡ afterCall (told (tallyValues t)) (now (out .entry))) ⌝ }
+{
+    if out.len() < 2 {
+        return Refusal::Room.number();
+    }
+    out[0] = t.written as u64;
+    out[1] = t.changes as u64;
+    0
+}
+
+// taken written change
+pub(crate) fn put_stepped(x: Stepped, out: &mut [u64]) -> u8
+    ensures { λ n. ⌜ (n ≡ statusOf (told (steppedValues x)) (now (out .entry))) × (now (out .exit) ≡ afterCall (told (steppedValues x)) (now (out .entry))) ⌝ }
+{
+    if out.len() < 3 {
+        return Refusal::Room.number();
+    }
+    let change = x.change;
+    let number = change_number(change);
+    out[0] = x.taken as u64;
+    out[1] = x.written as u64;
+    out[2] = number;
+    0
+}
+
+fn change_number(change: Change) -> u64
+    ensures { λ n. ⌜ n ≡ changeNumber change ⌝ }
+{
+    match change {
+        Change::Kept => 0,
+        Change::Spare => 1,
+        Change::Turned => 2,
+        Change::Both => 3,
+        Change::Dropped => 4,
+    }
 }

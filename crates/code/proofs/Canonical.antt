@@ -16,14 +16,16 @@ use Rattle.triple.specs.declared.refusal.Refusal.the-variants as Is
 use Rattle.triple.specs.Refusals.{Told, told, refused, _>>=_}
 use Rattle.triple.specs.Domain.{greatestResolution, greatestOrientation}
 use Rattle.triple.specs.Orientations.{isBackward}
+use Rattle.triple.proofs.OrientationLaws.{place-small}
 use Rattle.triple.proofs.RefusalLaws.{never, passed}
 use Rattle.code.specs.declared.Reading.{Reading}
-use Rattle.code.specs.Codes.{bitsOf, valueOf, bytesOf, allBits, codeLength, codeBytes, readingOf, spareOf, looseOf, readOf, Bytes}
+use Rattle.code.specs.Codes.{bitsOf, valueOf, bytesOf, allBits, codeLength, codeBytes, forwardOf, readingOf, codeOf, spareOf, looseOf, readOf, Bytes}
 use Rattle.code.proofs.BitLaws.{bits-low, value-whole}
 use Rattle.code.proofs.ByteLaws.{number, all-bits, bytes-front}
 use Rattle.code.proofs.CodeLaws.{positionBytes, spareBits, code-bytes}
 use Rattle.code.proofs.ReadLaws.{fromFirst, read-empty, read-first, position-read, position-below}
-use Rattle.code.proofs.TurnLaws.{reading-current}
+use Rattle.code.proofs.TurnLaws.{forward-good, forward-written, reading-current}
+use Rattle.code.proofs.RoundTrip.{coding}
 use Rattle.code.proofs.SpareLaws.{spare-joined}
 
 -- ---- bytes, out of their bits
@@ -113,7 +115,7 @@ loose-spelled [] small p = never (read-empty [] refl ∙ p)
 loose-spelled (b ∷ rest) small p = first-spelled b rest small (read-first (b ∷ rest) (λ z. omega (arith, z)) (small 0) ∙ p)
 
 -- what is read is read loosely too, and no spare bit is set
-stepped : {A B : Type 0} {f : A → Told B} (t : Told A) {b : B} → (t >>= f) ≡ told b → (a : A) × (t ≡ told a) × (f a ≡ told b)
+pub stepped : {A B : Type 0} {f : A → Told B} (t : Told A) {b : B} → (t >>= f) ≡ told b → (a : A) × (t ≡ told a) × (f a ≡ told b)
 stepped (told a) p = (a, refl, p)
 stepped (refused n) p = never p
 
@@ -124,6 +126,14 @@ read-loosely bytes {x} p =
     let clear = passed (ltb 0 (spareOf (l .0 .resolution) bytes)) Is.Spare (l .2) in
     let same : l .0 ≡ x = cc (clear .1) in
     rw (← same) (l .1, omega (arith, ltb-false 0 (spareOf (l .0 .resolution) bytes) (clear .0)))
+
+-- what it says can be written
+pub loose-writes : (bytes : List ℕ) → Bytes bytes → {x : Reading} → looseOf bytes ≡ told x → codeOf (x .orientation) (x .resolution) (x .s) ≡ told (codeBytes (x .orientation) (x .resolution) (x .s))
+unfolding readingOf
+loose-writes bytes small {x} p =
+    let e = loose-spelled bytes small p in
+    let o = ownOrientation bytes in
+    rw (e .says) (coding (forwardOf o) (x .resolution) _ (forward-good o (e .oriented)) (e .shallow) (forward-written o (e .oriented)) (place-small o (x .resolution) (ownPosition bytes) (e .below)))
 
 -- ---- without the mark it is the code that its values are written as
 pub read-spelling : (bytes : List ℕ) → Bytes bytes → {x : Reading} → readOf bytes ≡ told x → x .old ≡ false → codeBytes (x .orientation) (x .resolution) (x .s) ≡ take (x .used) bytes

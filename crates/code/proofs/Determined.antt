@@ -6,7 +6,7 @@ use Rattle.triple.specs.Lent.{countOf, afterCall}
 use Rattle.triple.proofs.Determined.{one-to-one, determined, numbered, answerOf}
 use Rattle.code.specs.declared.WriteAnswer.{WriteAnswer}
 use Rattle.code.specs.declared.ReadAnswer.{ReadAnswer}
-use Rattle.code.specs.Codes.{codeOf, readOf}
+use Rattle.code.specs.Codes.{codeOf, looseOf, readOf}
 use Rattle.code.specs.Answers.{saidWrite, saidRead}
 
 -- ---- the answers
@@ -31,3 +31,6 @@ write-determined o r s buffer a b x y p q = (determined saidWrite said-write-one
 
 pub read-determined : (bytes : List ℕ) (a b : ReadAnswer) → saidRead a ≡ readOf bytes → saidRead b ≡ readOf bytes → a ≡ b
 read-determined bytes = determined saidRead said-read-one-to-one
+
+pub read-loose-determined : (bytes : List ℕ) (a b : ReadAnswer) → saidRead a ≡ looseOf bytes → saidRead b ≡ looseOf bytes → a ≡ b
+read-loose-determined bytes = determined saidRead said-read-one-to-one

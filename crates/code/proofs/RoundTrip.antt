@@ -8,7 +8,7 @@ use native.Mathlib.Omega.{arith}
 use lib.Dec.{ltb, leb}
 use lib.ListN.{length, take, drop, replicate, length-append}
 use lib.Seq.{drop-at, drop-drop}
-use borrow.Author.Tests.{le-ltb, ne-eqb, ltb-false, leb-false}
+use borrow.Author.Tests.{le-ltb, lt-leb, ne-eqb, ltb-false, leb-false}
 use Rattle.whole.proofs.Powers.{four-by-shift}
 use Rattle.triple.specs.declared.refusal.Refusal.{Refusal}
 use Rattle.triple.specs.declared.refusal.Refusal.the-variants as Is
@@ -105,12 +105,21 @@ coded o r s p =
       bytes = cc (named .1);
     }
 
+-- and what passes them is coded
+pub coding : (o r s : ℕ) → o ≤ 5 → r ≤ 30 → isBackward o ≡ false → s < 4 ^ r → codeOf o r s ≡ told (codeBytes o r s)
+unfolding codeOf
+coding o r s ho hr current hs = simp (current, lt-leb (4 ^ r) s hs) (sym (domain-in o r _ hr ho))
+
+-- it is read as it was written, whatever follows it
+pub coded-read : (o r s : ℕ) {code : List ℕ} (rest : List ℕ) → codeOf o r s ≡ told code → readOf (code ++ rest) ≡ told (record { orientation = o; resolution = r; s = s; used = codeLength r; old = false })
+coded-read o r s rest p =
+    let c = coded o r s p in
+    ap (λ (code : List ℕ). readOf (code ++ rest)) (c .bytes) ∙ read-back o r s rest (c .oriented) (c .shallow) (c .below) ∙ ap told (reading-current o r s (c .oriented) (c .current))
+
 pub written-read-back : (o r s : ℕ) (buffer : List ℕ) (n : ℕ) → countOf (codeOf o r s) buffer ≡ told n
     → readOf (afterCall (codeOf o r s) buffer) ≡ told (record { orientation = o; resolution = r; s = s; used = n; old = false })
 written-read-back o r s buffer n p =
     let w = wrote (codeOf o r s) buffer p in
     let c = coded o r s (w .gave) in
-    ap readOf (w .stored ∙ ap (λ (code : List ℕ). code ++ drop n buffer) (c .bytes))
-    ∙ read-back o r s (drop n buffer) (c .oriented) (c .shallow) (c .below)
-    ∙ ap told (reading-current o r s (c .oriented) (c .current))
+    ap readOf (w .stored) ∙ coded-read o r s (drop n buffer) (w .gave)
     ∙ ap (λ (k : ℕ). told (record { orientation = o; resolution = r; s = s; used = k; old = false })) (sym (length-code o r s) ∙ ap length (sym (c .bytes)) ∙ w .count)

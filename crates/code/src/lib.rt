@@ -92,9 +92,9 @@ pub fn read(bytes: &[u8]) -> ReadAnswer
     }
 }
 
-// The same, whatever the spare bits are. How long a code is depends on its first byte, so that byte's
+// The same, whatever the spare bits are, for whoever mends codes. How long a code is depends on its first byte, so that byte's
 // own tests come before the one of the length.
-fn read_loose(bytes: &[u8]) -> ReadAnswer
+pub fn read_loose(bytes: &[u8]) -> ReadAnswer
     ensures { λ a. ⌜ saidRead a ≡ looseOf (now (bytes .entry)) ⌝ }
 {
     if bytes.len() == 0 {

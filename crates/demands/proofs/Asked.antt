@@ -14,6 +14,7 @@ use Rattle.demands.proofs.ReadBack.{code}
 use Rattle.demands.proofs.Turned.{code-read}
 use Rattle.demands.proofs.WholeCodes.{whole-codes}
 use Rattle.demands.proofs.Folded.{folding, unfolds}
+use Rattle.demands.proofs.Mended.{mending}
 use Rattle.demands.proofs.TwelveCases.{dozen}
 
 pub demands : Demands
@@ -35,5 +36,6 @@ demands = record {
   folds = folding;
   fold-empty = empty-folds;
   unfolds = unfolds;
+  mending = mending;
   dozen = dozen;
 }

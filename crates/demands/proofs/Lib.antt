@@ -32,6 +32,8 @@ pub mod WholeCodes
 -- ---- folding
 -- what a fold is, and that unfolding undoes it
 pub mod Folded
+-- lists of codes, mended
+pub mod Mended
 -- ---- the dozen, and the whole
 -- the twelve worked examples
 pub mod TwelveCases

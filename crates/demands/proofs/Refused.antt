@@ -43,6 +43,7 @@ use Rattle.code.specs.Codes.{allBits, valueOf, codeLength, codeOf, spareOf, loo
 use Rattle.fold.specs.Cells.{cellsIn}
 use Rattle.fold.specs.Folds.{allBelow, ascending, foldCall}
 use Rattle.fold.specs.Unfolds.{shallow, inside, ordered, unfoldCall}
+use Rattle.mend.specs.Mends.{stepOf, mendCall, mendedTo}
 use Rattle.query.specs.declared.Query.{Query}
 use Rattle.text.specs.Decimals.{u8, u64, i32}
 use Rattle.text.specs.Patterns.{f64}
@@ -222,6 +223,15 @@ unfolds o r pairs slice =
     by-test (not (inside (cellsIn pairs))) Is.Position tt λ l.
     by-test (not (ordered r pairs)) Is.Order tt λ a. answer)
 
+-- ---- mending
+mending : (list out : List ℕ) → AnsweredOr (10 ∷ []) (mendedTo list out)
+unfolding mendedTo mendCall numberOf
+mending list out = by-step (by-room out tt (by-test (ltb (length out) (length list)) Is.Room tt λ room. answer)) λ n. answer
+
+mending-step : (rest out : List ℕ) → AnsweredOr (10 ∷ []) (stepOf rest out)
+unfolding stepOf
+mending-step rest out = by-step (by-room out tt answer) λ n. answer
+
 -- ---- lines and queries
 by-number : {A : Type 0} (read : Option A) → AnsweredOr (21 ∷ []) (number read)
 unfolding numberOf
@@ -274,6 +284,8 @@ refusals = record {
   reading = reading;
   folds = folds;
   unfolds = unfolds;
+  mending = mending;
+  mending-step = mending-step;
   line = line;
   query = query;
   print = print;

@@ -4,13 +4,12 @@ use mathlib.Core.List.{List, [], append-nil}
 use Prim.Native.Nat.{ℕ, _^_, _≤_, _<_}
 use lib.ListN.{take}
 use lib.Seq.{take-length}
-use Rattle.triple.specs.Refusals.{told}
 use Rattle.code.specs.declared.Reading.{Reading}
 use Rattle.code.specs.Codes.{codeBytes, readingOf, readOf}
 use Rattle.code.proofs.RoundTrip.{read-back}
 use Rattle.code.proofs.Canonical.{ownOrientation, ownPosition, loose-spelled, read-loosely, codes-canonical}
 use Rattle.lsystem.specs.Cells.{cellOf}
-use Rattle.demands.specs.Demands.{WholeCode, Alike, WholeCodes}
+use Rattle.demands.specs.Demands.{WholeCode, WholeCodes}
 use Rattle.demands.proofs.ToldLaws.{told-same}
 use Rattle.demands.proofs.Turned.{reading-names}
 

@@ -43,6 +43,7 @@ use Rattle.fold.specs.Cells.{Cell as WholeCell, Covered, cellsIn}
 use Rattle.fold.specs.Folds.{has, ascending, foldCall}
 use Rattle.fold.specs.Unfolds.{apart, unfoldCall}
 use Rattle.fold.specs.Foldings.{cellsOf, Step, Foldings, Ended, Lone}
+use Rattle.mend.specs.Mends.{mendOf, changesOf, Sound, Reported, Every, stepOf, mendCall, mendedTo}
 use Rattle.query.specs.declared.Query.{Query}
 use Rattle.query.specs.Queries.{answerOf}
 use Rattle.query.specs.Lines.{queryOf}
@@ -105,6 +106,9 @@ pub record Refusals : Type 0 where
   pub folds : (o r : ℕ) (positions slice : List ℕ) → AnsweredOr (1 ∷ 2 ∷ 3 ∷ 25 ∷ 10 ∷ []) (valued (λ n. n / 2) (countOf (foldCall o r positions) slice))
   -- pairs unfolded
   pub unfolds : (o r : ℕ) (pairs slice : List ℕ) → AnsweredOr (1 ∷ 2 ∷ 3 ∷ 25 ∷ 10 ∷ []) (countOf (unfoldCall o r pairs) slice)
+  -- a list mended, and one step of that
+  pub mending : (list out : List ℕ) → AnsweredOr (10 ∷ []) (mendedTo list out)
+  pub mending-step : (rest out : List ℕ) → AnsweredOr (10 ∷ []) (stepOf rest out)
   -- the query of a line
   pub line : (line : List ℕ) → AnsweredOr (21 ∷ []) (queryOf line)
   -- the answer to a query: the numbers of all three kinds
@@ -310,6 +314,25 @@ pub record Unfolding (o r : ℕ) (pairs positions : List ℕ) : Type 0 where
   -- folding them gives the pairs back where these were folded, that is, where no four siblings stand among them
   pub back : Lone (cellsIn pairs) → foldCall o r positions ≡ told pairs
 
+-- ---- mending a list of codes
+pub record Mending (list : List ℕ) : Type 0 where
+  -- what is written reads from its beginning to its end as codes without the mark
+  pub sound : Sound (mendOf list)
+  -- to mend it again changes nothing, and no change is told
+  pub again : (mendOf (mendOf list) ≡ mendOf list) × (changesOf (mendOf list) ≡ [])
+  -- it is never longer than the list
+  pub short : length (mendOf list) ≤ length list
+  -- it goes to the front of an output as long as the list, and the bytes past it stay
+  pub past : (out : List ℕ) → length list ≤ length out → afterCall (mendCall list out) out ≡ mendOf list ++ drop (length (mendOf list)) out
+  -- a shorter one is refused by 10, and stays as it was
+  pub refused-short : (out : List ℕ) → length out < length list → (mendedTo list out ≡ refused 10) × (afterCall (mendCall list out) out ≡ out)
+  -- each line's offset is where a code or byte begins, and its change is told of that
+  pub offsets : Every (Reported list) (changesOf list)
+  -- a list of sound codes without the mark comes out as it was
+  pub kept : Sound list → mendOf list ≡ list
+  -- and of no other list no change is told
+  pub unchanged : (changesOf list ≡ []) ↔ Sound list
+
 -- ---- ALL THAT WAS ASKED
 pub record Demands : Type 1 where
   -- every call on every input ends with an answer or a numbered refusal
@@ -346,5 +369,7 @@ pub record Demands : Type 1 where
   pub fold-empty : (o r : ℕ) → o ≤ 5 → r ≤ 30 → foldCall o r [] ≡ told []
   -- for all pairs that are unfolded
   pub unfolds : (o r : ℕ) (pairs positions : List ℕ) → unfoldCall o r pairs ≡ told positions → Unfolding o r pairs positions
+  -- for every list of bytes
+  pub mending : (list : List ℕ) → Bytes list → Mending list
   -- the twelve worked examples
   pub dozen : Dozen

@@ -1,0 +1,3 @@
+pub mod Mends
+pub mod Answers
+pub mod Inside
