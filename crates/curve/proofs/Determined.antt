@@ -6,6 +6,7 @@ use Rattle.triple.proofs.Determined.{one-to-one, determined, numbered, answerOf
 use Rattle.curve.specs.declared.PointCell.{PointCell}
 use Rattle.curve.specs.declared.PointAnswer.{PointAnswer}
 use Rattle.curve.specs.Points.{markOf, pointOf}
+use Rattle.curve.specs.ExactPoints.{exactPointOf}
 use Rattle.curve.specs.Answers.{saidPoint}
 
 point-back : (a : PointAnswer) → answerOf PointAnswer.At PointAnswer.Refused (saidPoint a) ≡ a
@@ -20,3 +21,6 @@ mark-determined p a b e f = e ∙ sym f
 
 pub point-determined : (r : ℕ) (i j : Float) (a b : PointAnswer) → saidPoint a ≡ pointOf r i j → saidPoint b ≡ pointOf r i j → a ≡ b
 point-determined r i j = determined saidPoint said-point-one-to-one
+
+pub exact-point-determined : (r : ℕ) (i j : Float) (a b : PointAnswer) → saidPoint a ≡ exactPointOf r i j → saidPoint b ≡ exactPointOf r i j → a ≡ b
+exact-point-determined r i j = determined saidPoint said-point-one-to-one

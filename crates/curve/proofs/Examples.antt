@@ -1,4 +1,4 @@
--- Worked examples of document 01 on points, by computation. A float fin s m e is m * 2 ^ e, negative where s is true.
+-- Worked examples of points, by computation. A float fin s m e is m * 2 ^ e, negative where s is true.
 use mathlib.Core.Path.{_≡_, refl}
 use mathlib.Core.Bool.{Bool, false, true}
 use Prim.Native.Nat.{_+_, _*_, _^_}
@@ -7,6 +7,7 @@ use lib.Ieee.{nan, inf, fin, add, sub, le, ofInt}
 use Rattle.triple.specs.Refusals.{Told, told, refused, numberOf}
 use Rattle.curve.specs.declared.PointCell.{PointCell}
 use Rattle.curve.specs.Points.{near, floor, fraction, parity, settled, isMoved, pointOf}
+use Rattle.curve.specs.ExactPoints.{fractionOf, beyond, exactParity, exactPointOf}
 
 abbrev at : ℤ → ℤ → ℤ → Bool → Told PointCell
 at x y z moved = told (record { triple = record { x = x; y = y; z = z }; moved = moved })
@@ -29,3 +30,20 @@ pub refused-points :
     × (pointOf 30 (fin true 1 (pos 31)) (fin false 1 (pos 31)) ≡ at (negsuc 1073741822) (pos 1073741823) (pos 0) true)
 unfolding numberOf near floor fraction parity settled isMoved pointOf add sub le ofInt
 refused-points = (refl, refl, refl, refl, refl, refl)
+
+-- (-2^-60, 0): its fractions are 1 - 2^-60 and 0, and the f64's arithmetic has 1 and 0
+pub left-of-the-edge :
+    (pointOf 1 (fin true 1 (negsuc 59)) (fin false 0 (pos 0)) ≡ at (pos 0) (pos 1) (pos 0) true)
+    × (exactPointOf 1 (fin true 1 (negsuc 59)) (fin false 0 (pos 0)) ≡ at (pos 0) (pos 0) (pos 0) true)
+unfolding numberOf near floor fraction parity settled isMoved pointOf add sub le ofInt fractionOf beyond exactParity exactPointOf
+left-of-the-edge = (refl, refl)
+
+-- on the line where the fractions sum to 1, and 2^-1074 short of it; refusals as without exact fractions
+pub exact-examples :
+    (exactPointOf 1 (fin false 1 (negsuc 0)) (fin false 1 (negsuc 0)) ≡ at (pos 0) (pos 1) (pos 0) false)
+    × (exactPointOf 3 (fin false 3 (negsuc 0)) (fin true 1 (negsuc 1073)) ≡ at (pos 0) (pos 2) (negsuc 0) true)
+    × (exactPointOf 3 (fin false 1 (negsuc 1073)) (fin false 1 (pos 0)) ≡ at (negsuc 0) (pos 1) (pos 0) false)
+    × (exactPointOf 31 nan nan ≡ refused 1)
+    × (exactPointOf 30 nan (fin false 0 (pos 0)) ≡ refused 9)
+unfolding numberOf near floor settled isMoved fractionOf beyond exactParity exactPointOf
+exact-examples = (refl, refl, refl, refl, refl)

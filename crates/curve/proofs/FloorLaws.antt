@@ -46,13 +46,13 @@ reduced (fin t m e) s d x l h v = (
 )
 
 -- ---- a pattern's fields: the sign, the exponent, and the digits below the leading one
-abbrev sign : ℕ → Bool
+abbrev pub sign : ℕ → Bool
 sign b = leb (2 ^ 63) b
 
-abbrev exponent : ℕ → ℕ
+abbrev pub exponent : ℕ → ℕ
 exponent b = b % 2 ^ 63 / 2 ^ 52
 
-abbrev digits : ℕ → ℕ
+abbrev pub digits : ℕ → ℕ
 digits b = b % 2 ^ 52
 
 -- of no exponent, in units of 2 ^ -1074; of one, with the leading digit
@@ -129,7 +129,7 @@ floor-size (fin s m e) t = floor-at-size s (m * up e) (down e) (2 ^ 31) (down-po
 
 -- ---- what the code has of x: its bits, and that it is near
 module _ (x : Float) (f : lib.Ieee.fits binary64 x ≡ true) (t : near x ≡ true) where
-  abbrev bits : ℕ
+  abbrev pub bits : ℕ
   bits = toBits binary64 x
 
   own : ofBits binary64 bits ≡ x
@@ -162,22 +162,38 @@ module _ (x : Float) (f : lib.Ieee.fits binary64 x ≡ true) (t : near x ≡ tru
             (subst (λ (n : ℕ). HasValue (ofBits binary64 bits) (sign bits) n (2 ^ 1074)) (v .none (omega arith)) (v .value))
       ]
 
-  -- from 1 up: digits / 2 ^ places
+  -- of an exponent: digits / 2 ^ places
+  leading-places : (k : ℕ) → exponent bits ≡ k → 0 < k → (k ≤ 1054) × HasValue (ofBits binary64 bits) (sign bits) (2 ^ 52 + digits bits) (2 ^ (1075 - k))
+  leading-places zero z h = absurd (omega arith)
+  leading-places (suc y) z h =
+      let v = leading-value bits y own-near z in
+      let l = exponent-most (2 ^ 52 + digits bits) y (omega arith) (near-size (ofBits binary64 bits) (sign bits) ((2 ^ 52 + digits bits) * 2 ^ y) (2 ^ 1074) own-near v) in
+      let p : 1074 - y ≡ 1075 - suc y = omega arith in
+      (omega arith, subst (λ (k : ℕ). HasValue (ofBits binary64 bits) (sign bits) (2 ^ 52 + digits bits) (2 ^ k)) p (reduced (ofBits binary64 bits) (sign bits) (2 ^ 52 + digits bits) y 1074 (omega arith) v))
+
+  -- from 1 up
   module _ (h : 1023 ≤ exponent bits) where
-    leading-places : (k : ℕ) → exponent bits ≡ k → (k ≤ 1054) × HasValue (ofBits binary64 bits) (sign bits) (2 ^ 52 + digits bits) (2 ^ (1075 - k))
-    leading-places zero z = absurd (omega arith)
-    leading-places (suc y) z =
-        let v = leading-value bits y own-near z in
-        let l = exponent-most (2 ^ 52 + digits bits) y (omega arith) (near-size (ofBits binary64 bits) (sign bits) ((2 ^ 52 + digits bits) * 2 ^ y) (2 ^ 1074) own-near v) in
-        let p : 1074 - y ≡ 1075 - suc y = omega arith in
-        (omega arith, subst (λ (k : ℕ). HasValue (ofBits binary64 bits) (sign bits) (2 ^ 52 + digits bits) (2 ^ k)) p (reduced (ofBits binary64 bits) (sign bits) (2 ^ 52 + digits bits) y 1074 (omega arith) v))
+    from-one : (exponent bits ≤ 1054) × HasValue (ofBits binary64 bits) (sign bits) (2 ^ 52 + digits bits) (2 ^ (1075 - exponent bits))
+    from-one = leading-places (exponent bits) refl (omega arith)
 
     pub exponent-fits : exponent bits ≤ 1075
-    exponent-fits = omega (arith, leading-places (exponent bits) refl .0)
+    exponent-fits = omega (arith, from-one .0)
 
     pub floor-leading : {z : ℤ} → z ≡ floorAt (sign bits) (2 ^ 52 + digits bits) (2 ^ (1075 - exponent bits)) → rd w64 z ≡ floor x
     floor-leading e =
-        kept w64 (e ∙ floor-own (sign bits) (2 ^ 52 + digits bits) (2 ^ (1075 - exponent bits)) refl (pow-pos (1075 - exponent bits)) (leading-places (exponent bits) refl .1)) (v-abs (floor x) (2 ^ 31) (floor-size x t)) tt
+        kept w64 (e ∙ floor-own (sign bits) (2 ^ 52 + digits bits) (2 ^ (1075 - exponent bits)) refl (pow-pos (1075 - exponent bits)) (from-one .1)) (v-abs (floor x) (2 ^ 31) (floor-size x t)) tt
+
+  -- ---- x as a fraction of its pattern's fields
+  pub value-own : (s : Bool) (a c : ℕ) → HasValue (ofBits binary64 bits) s a c → HasValue x s a c
+  value-own s a c v = subst (λ (y : Float). HasValue y s a c) own v
+
+  pub plain : exponent bits ≡ 0 → HasValue x (sign bits) (digits bits) (2 ^ 1074)
+  plain z = value-own (sign bits) (digits bits) (2 ^ 1074) (plain-value bits z)
+
+  pub leading : 0 < exponent bits → (exponent bits ≤ 1054) × HasValue x (sign bits) (2 ^ 52 + digits bits) (2 ^ (1075 - exponent bits))
+  leading h =
+      let v = leading-places (exponent bits) refl h in
+      (v .0, value-own (sign bits) (2 ^ 52 + digits bits) (2 ^ (1075 - exponent bits)) (v .1))
 
 -- ---- the floor of digits / 2 ^ places, and of that below 0, by a shift
 whole-most : (d k : ℕ) → d < 2 ^ 53 → d / 2 ^ k ≤ 2 ^ 53

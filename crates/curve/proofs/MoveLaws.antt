@@ -19,8 +19,8 @@ use Rattle.triple.specs.Domain.{greatestResolution}
 use Rattle.triple.specs.Triples.{bounds, inBounds}
 use Rattle.triple.proofs.RefusalLaws.{passed}
 use Rattle.curve.specs.declared.PointCell.{PointCell}
-use Rattle.curve.specs.Points.{floor, fraction, parity, clamped, settled, isMoved, ownTriple, markOf, pointOf}
-use Rattle.curve.proofs.PointLaws.{settled-whole, settled-in-bounds, point-is, parity-small}
+use Rattle.curve.specs.Points.{floor, parity, clamped, settled, isMoved, ownTriple, markOf, pointBy, pointOf}
+use Rattle.curve.proofs.PointLaws.{settled-whole, settled-in-bounds, by-is, parity-small}
 
 -- ---- from the floors m and n, the parity and the last row
 module _ (last : ℕ) (m n : ℤ) (p : ℕ) where
@@ -110,20 +110,29 @@ out-of-bounds r m n p h = sym (false-pass (bounds r (ownTriple m n p)) (λ held.
 own-in-bounds : (r : ℕ) (m n : ℤ) (p : ℕ) → p ≤ 1 → isMoved (2 ^ r - 1) m n p ≡ false → inBounds r (ownTriple m n p) ≡ true
 own-in-bounds r m n p l h = rw (← settled-own (2 ^ r - 1) m n p h) (settled-in-bounds r (clamped m) (clamped n) p l)
 
--- THE MARK of a point: exactly when the triple of its own floors and parity is out of bounds
-pub moved-exactly : (r : ℕ) (i j : Float) (p : PointCell) → pointOf r i j ≡ told p → (p .moved ≡ true) ↔ (inBounds r (ownTriple (floor i) (floor j) (parity i j)) ≡ false)
-unfolding parity
-moved-exactly r i j p e =
-    let is = ap (λ (p : PointCell). p .moved) (point-is r i j p e) in
-    let within = own-in-bounds r (floor i) (floor j) (parity i j) (parity-small (fraction i) (fraction j) refl) in
-    (λ t. out-of-bounds r (floor i) (floor j) (parity i j) (sym is ∙ t), λ out. marked (p .moved) (λ f. true≢false (sym (within (sym is ∙ f)) ∙ out)))
-  where
-    marked : (b : Bool) → (b ≡ false → ⊥) → b ≡ true
-    marked true h = refl
-    marked false h = absurd (h refl)
+-- THE MARK of a point, whoever tells the parity: exactly when the triple of its own floors and parity is out of bounds
+module _ (tell : Float → Float → ℕ) (r : ℕ) (i j : Float) (p : PointCell) (e : pointBy tell r i j ≡ told p) where
+  pub by-moved-exactly : tell i j ≤ 1 → (p .moved ≡ true) ↔ (inBounds r (ownTriple (floor i) (floor j) (tell i j)) ≡ false)
+  by-moved-exactly small =
+      let is = ap (λ (p : PointCell). p .moved) (by-is tell r i j p e) in
+      let within = own-in-bounds r (floor i) (floor j) (tell i j) small in
+      (λ t. out-of-bounds r (floor i) (floor j) (tell i j) (sym is ∙ t), λ out. marked (p .moved) (λ f. true≢false (sym (within (sym is ∙ f)) ∙ out)))
+    where
+      marked : (b : Bool) → (b ≡ false → ⊥) → b ≡ true
+      marked true h = refl
+      marked false h = absurd (h refl)
 
--- where it is not moved, that triple is the answer
-pub unmoved-own : (r : ℕ) (i j : Float) (p : PointCell) → pointOf r i j ≡ told p → p .moved ≡ false → p .triple ≡ ownTriple (floor i) (floor j) (parity i j)
-unmoved-own r i j p e f =
-    let is = point-is r i j p e in
-    ap (λ (p : PointCell). p .triple) is ∙ settled-own (2 ^ r - 1) (floor i) (floor j) (parity i j) (sym (ap (λ (p : PointCell). p .moved) is) ∙ f)
+  -- where it is not moved, that triple is the answer
+  pub by-unmoved-own : p .moved ≡ false → p .triple ≡ ownTriple (floor i) (floor j) (tell i j)
+  by-unmoved-own f =
+      let is = by-is tell r i j p e in
+      ap (λ (p : PointCell). p .triple) is ∙ settled-own (2 ^ r - 1) (floor i) (floor j) (tell i j) (sym (ap (λ (p : PointCell). p .moved) is) ∙ f)
+
+module _ (r : ℕ) (i j : Float) (p : PointCell) where
+  pub moved-exactly : pointOf r i j ≡ told p → (p .moved ≡ true) ↔ (inBounds r (ownTriple (floor i) (floor j) (parity i j)) ≡ false)
+  unfolding pointOf
+  moved-exactly e = by-moved-exactly parity r i j p e (parity-small i j)
+
+  pub unmoved-own : pointOf r i j ≡ told p → p .moved ≡ false → p .triple ≡ ownTriple (floor i) (floor j) (parity i j)
+  unfolding pointOf
+  unmoved-own = by-unmoved-own parity r i j p

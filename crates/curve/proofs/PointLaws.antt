@@ -25,7 +25,9 @@ use Rattle.triple.proofs.DomainLaws.{v-rows}
 use Rattle.triple.proofs.RefusalLaws.{passed}
 use Rattle.triple.proofs.TripleLaws.{row-most}
 use Rattle.curve.specs.declared.PointCell.{PointCell}
-use Rattle.curve.specs.Points.{near, floor, fraction, one, parity, clamped, cornered, settled, isMoved, pointCell, pointOf}
+use Rattle.curve.specs.Points.{near, floor, fraction, one, parity, clamped, cornered, settled, isMoved, pointCell, pointBy, pointOf}
+use Rattle.curve.specs.ExactPoints.{reaches, beyond, exactParity}
+use Rattle.curve.specs.Inside.Parts.{parityIn}
 use Rattle.curve.proofs.FloorLaws.{floor-size}
 
 -- ---- both coordinates
@@ -74,7 +76,7 @@ clamped-size (pos n) k h = h
 clamped-size (negsuc n) k h = omega arith
 
 module _ (x : Float) (t : near x ≡ true) {y : ℤ} (e : y ≡ floor x) where
-  floor-read : rd w64 y ≡ floor x
+  pub floor-read : rd w64 y ≡ floor x
   floor-read = kept w64 e (v-abs (floor x) (2 ^ 31) (floor-size x t)) tt
 
   pub floor-small : natAbs (rd w64 y) ≤ 2 ^ 31
@@ -113,17 +115,39 @@ module _ (f g : Float) where
 
 pub ruleset parities = (parity-one, parity-zero)
 
-module _ (f g : Float) {p : ℕ} (e : p ≡ cond (le one (add binary64 f g)) 1 0) where
-  pub parity-small : p ≤ 1
-  parity-small = go (le one (add binary64 f g)) e
-    where
-      go : (b : Bool) → p ≡ cond b 1 0 → p ≤ 1
-      go true e = omega arith
-      go false e = omega arith
+flag-small : (b : Bool) → _≤_ (cond b 1 0) 1
+flag-small true = omega arith
+flag-small false = omega arith
 
-  parity-is : (i j : Float) → f ≡ fraction i → g ≡ fraction j → p ≡ parity i j
+pub parity-small : (i j : Float) → parity i j ≤ 1
+unfolding parity
+parity-small i j = flag-small (le one (add binary64 (fraction i) (fraction j)))
+
+pub exact-small : (i j : Float) → exactParity i j ≤ 1
+unfolding exactParity
+exact-small i j = flag-small (reaches (pos 1) (beyond i j (floor i) (floor j)))
+
+-- of one way or the other
+module _ (exact : Bool) (i j : Float) where
+  pub told-small : {p : ℕ} → p ≡ parityIn exact i j → p ≤ 1
+  told-small e = rw e (go exact)
+    where
+      go : (b : Bool) → parityIn b i j ≤ 1
+      go true = exact-small i j
+      go false = parity-small i j
+
+  pub told-exactly : exact ≡ true → {p : ℕ} → p ≡ exactParity i j → p ≡ parityIn exact i j
+  told-exactly t e = rw t e
+
+  pub told-rounded : exact ≡ false → (near i && near j) ≡ true → {m n : ℤ} → m ≡ floor i → n ≡ floor j → (f g : Float) → f ≡ sub binary64 i (ofInt binary64 (rd w64 m))
+      → g ≡ sub binary64 j (ofInt binary64 (rd w64 n)) → {p : ℕ} → p ≡ cond (le one (add binary64 f g)) 1 0 → p ≡ parityIn exact i j
   unfolding parity
-  parity-is i j a b = e ∙ λ k. cond (le one (add binary64 (a k) (b k))) 1 0
+  told-rounded t both m n f g a b e =
+      let f-is = fraction-is i (near-first i j both) m a in
+      let g-is = fraction-is j (near-second i j both) n b in
+      rw t (e ∙ λ k. cond (le one (add binary64 (f-is k) (g-is k))) 1 0)
+
+pub ruleset telling = (near-first, near-second, floor-small, told-exactly, told-rounded)
 
 -- ---- the triple of m, n and the parity
 abbrev v-minus : (k : ℕ) → k ≤ 2 ^ 30 → View (pos 0 -ℤ toZ w32 k)
@@ -190,35 +214,28 @@ module _ (m n p last : ℕ) where
 pub ruleset settling = (settled-whole, settled-even, settled-off-m, settled-off-n)
 
 -- the whole rounding, from what each step gives
-pub rounded-is : (i j : Float) (last : ℕ) → (near i && near j) ≡ true → {y z m n : ℤ} → y ≡ floor i → z ≡ floor j → m ≡ pos (clamped (rd w64 y)) → n ≡ pos (clamped (rd w64 z))
-    → (f g : Float) → f ≡ sub binary64 i (ofInt binary64 (rd w64 y)) → g ≡ sub binary64 j (ofInt binary64 (rd w64 z)) → {p : ℕ} → p ≡ cond (le one (add binary64 f g)) 1 0
-    → {t : Triple} → t ≡ settled last (natAbs (rd w64 m)) (natAbs (rd w64 n)) p → {b : Bool} → b ≡ isMoved last (rd w64 y) (rd w64 z) p → {c : PointCell} → c ≡ record { triple = t; moved = b } → c ≡ pointCell last (floor i) (floor j) (parity i j)
-rounded-is i j last both y z m n f g a b p e moved is =
+pub rounded-is : (exact : Bool) (i j : Float) (last : ℕ) → (near i && near j) ≡ true → {y z m n : ℤ} → y ≡ floor i → z ≡ floor j → m ≡ pos (clamped (rd w64 y)) → n ≡ pos (clamped (rd w64 z))
+    → {p : ℕ} → p ≡ parityIn exact i j → {t : Triple} → t ≡ settled last (natAbs (rd w64 m)) (natAbs (rd w64 n)) p → {b : Bool} → b ≡ isMoved last (rd w64 y) (rd w64 z) p
+    → {c : PointCell} → c ≡ record { triple = t; moved = b } → c ≡ pointCell last (floor i) (floor j) (parityIn exact i j)
+rounded-is exact i j last both y z m n p e moved is =
     let ni = near-first i j both in
     let nj = near-second i j both in
-    let parity-same = parity-is f g p i j (fraction-is i ni y a) (fraction-is j nj z b) in
-    let triple-same = e ∙ λ k. settled last (clamped-is i ni y m k) (clamped-is j nj z n k) (parity-same k) in
-    let moved-same = moved ∙ λ k. isMoved last (floor-read i ni y k) (floor-read j nj z k) (parity-same k) in
+    let triple-same = e ∙ λ k. settled last (clamped-is i ni y m k) (clamped-is j nj z n k) (p k) in
+    let moved-same = moved ∙ λ k. isMoved last (floor-read i ni y k) (floor-read j nj z k) (p k) in
     is ∙ λ k. record { triple = triple-same k; moved = moved-same k }
 
-pub ruleset rounding = (near-first, near-second, floor-small, clamped-not-negative, clamped-fits, clamped-small, parity-small, rounded-is)
+pub ruleset rounding = (near-first, near-second, floor-read, floor-small, clamped-not-negative, clamped-fits, clamped-small, told-small, rounded-is)
 
 -- ---- the answers: refused, or told
-module _ (r : ℕ) (i j : Float) where
-  abbrev found : PointCell
-  found = pointCell (2 ^ r - 1) (floor i) (floor j) (parity i j)
-
-  pub point-far : 30 < r → refused (numberOf Is.Resolution) ≡ pointOf r i j
-  unfolding pointOf
+module _ (exact : Bool) (r : ℕ) (i j : Float) where
+  pub point-far : 30 < r → refused (numberOf Is.Resolution) ≡ pointBy (parityIn exact) r i j
   point-far h = rw (lt-ltb 30 r h)
 
   module _ (h : r ≤ 30) {b : Bool} (e : b ≡ (near i && near j)) where
-    pub point-beyond : not b ≡ true → refused (numberOf Is.Point) ≡ pointOf r i j
-    unfolding pointOf
+    pub point-beyond : not b ≡ true → refused (numberOf Is.Point) ≡ pointBy (parityIn exact) r i j
     point-beyond n = rw (le-ltb 30 r h, ← e, not-true b n)
 
-    pub point-told : not b ≡ false → {l : ℕ} → l ≡ 2 ^ r - 1 → {p : PointCell} → p ≡ pointCell l (floor i) (floor j) (parity i j) → told p ≡ pointOf r i j
-    unfolding pointOf
+    pub point-told : not b ≡ false → {l : ℕ} → l ≡ 2 ^ r - 1 → {p : PointCell} → p ≡ pointCell l (floor i) (floor j) (parityIn exact i j) → told p ≡ pointBy (parityIn exact) r i j
     point-told n l f = rw (le-ltb 30 r h, ← e, not-false b n, f, l)
 
 pub last-small : (r : ℕ) → r ≤ 30 → {l : ℕ} → l ≡ 2 ^ r - 1 → l ≤ 2 ^ 30
@@ -250,16 +267,27 @@ settled-in-bounds r m n p l = elim (decLt (2 ^ r - 1) (m + n + p)) [
   | no h ↦ rw (← settled-whole m n p (2 ^ r - 1) (omega arith) refl) (cornered-in-bounds r m n p (omega arith) l)
 ]
 
--- what is told is the rounding's
-pub point-is : (r : ℕ) (i j : Float) (p : PointCell) → pointOf r i j ≡ told p → p ≡ found r i j
-unfolding pointOf
-point-is r i j p e =
-    let deep = passed (ltb greatestResolution r) Is.Resolution e in
-    let beyond = passed (not (near i && near j)) Is.Point (deep .1) in
-    cc (beyond .1)
+-- what is told is the rounding's, whoever tells the parity
+module _ (tell : Float → Float → ℕ) (r : ℕ) (i j : Float) (p : PointCell) (e : pointBy tell r i j ≡ told p) where
+  pub by-is : p ≡ pointCell (2 ^ r - 1) (floor i) (floor j) (tell i j)
+  by-is =
+      let deep = passed (ltb greatestResolution r) Is.Resolution e in
+      let beyond = passed (not (near i && near j)) Is.Point (deep .1) in
+      cc (beyond .1)
 
-pub point-in-bounds : (r : ℕ) (i j : Float) (p : PointCell) → pointOf r i j ≡ told p → inBounds r (p .triple) ≡ true
-unfolding parity
-point-in-bounds r i j p e =
-    ap (λ (p : PointCell). inBounds r (p .triple)) (point-is r i j p e)
-    ∙ settled-in-bounds r (clamped (floor i)) (clamped (floor j)) (parity i j) (parity-small (fraction i) (fraction j) refl)
+  pub by-near : (near i && near j) ≡ true
+  by-near =
+      let deep = passed (ltb greatestResolution r) Is.Resolution e in
+      not-false (near i && near j) (passed (not (near i && near j)) Is.Point (deep .1) .0)
+
+  pub by-in-bounds : tell i j ≤ 1 → inBounds r (p .triple) ≡ true
+  by-in-bounds small = ap (λ (p : PointCell). inBounds r (p .triple)) by-is ∙ settled-in-bounds r (clamped (floor i)) (clamped (floor j)) (tell i j) small
+
+module _ (r : ℕ) (i j : Float) (p : PointCell) where
+  pub point-is : pointOf r i j ≡ told p → p ≡ pointCell (2 ^ r - 1) (floor i) (floor j) (parity i j)
+  unfolding pointOf
+  point-is = by-is parity r i j p
+
+  pub point-in-bounds : pointOf r i j ≡ told p → inBounds r (p .triple) ≡ true
+  unfolding pointOf
+  point-in-bounds e = by-in-bounds parity r i j p e (parity-small i j)

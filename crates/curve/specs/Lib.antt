@@ -1,2 +1,4 @@
 pub mod Points
+pub mod ExactPoints
 pub mod Answers
+pub mod Inside

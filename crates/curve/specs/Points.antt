@@ -70,9 +70,13 @@ pointCell last m n p = record { triple = settled last (clamped m) (clamped n) p;
 unfoldable pub markOf : PointCell → ℕ
 markOf p = cond (p .moved) 1 0
 
--- THE CELL of the point (i, j) at resolution r
-unfoldable pub pointOf : ℕ → Float → Float → Told PointCell
-pointOf r i j =
+-- the cell of the point (i, j) at resolution r, by a way to tell the parity
+abbrev pub pointBy : (Float → Float → ℕ) → ℕ → Float → Float → Told PointCell
+pointBy tell r i j =
     atResolution r
     (refuse (not (near i && near j)) Is.Point
-    (told (pointCell (2 ^ r - 1) (floor i) (floor j) (parity i j))))
+    (told (pointCell (2 ^ r - 1) (floor i) (floor j) (tell i j))))
+
+-- THE CELL of the point (i, j) at resolution r
+unfoldable pub pointOf : ℕ → Float → Float → Told PointCell
+pointOf r i j = pointBy parity r i j

@@ -1,5 +1,5 @@
 // Answers for points: the triple of the cell that a point of two f64 falls in, brought into bounds, and
-// whether it had to be.
+// whether it had to be. Which half of a unit square that is, the f64's arithmetic tells or exact fractions.
 // What a triple's bounds are is `triple`'s; which position names it is `lsystem`'s. The mapping between
 // positions and cells needs no point, and is all there.
 ghost use mathlib.Core.Path.{_≡_};
@@ -7,11 +7,16 @@ ghost use mathlib.Core.Bool.{true, _&&_, cond};
 ghost use Prim.Native.Nat.{_+_, _-_, _<_, _≤_, _^_};
 ghost use lib.IntN.{pos, natAbs};
 ghost use lib.Ieee.{binary64, add, sub, le, ofInt};
-ghost use Rattle.curve.specs.Points.{near, floorAt, floor, one, parity, clamped, cornered, settled, isMoved, pointCell, markOf, pointOf};
+ghost use Rattle.curve.specs.Points.{near, floorAt, floor, one, clamped, cornered, settled, isMoved, pointBy, pointCell, markOf, pointOf};
+ghost use Rattle.curve.specs.ExactPoints.{exactPointOf};
+ghost use Rattle.curve.specs.Inside.Parts.{parityIn};
 ghost use Rattle.curve.specs.Answers.{saidPoint};
+use crate::exact::exact_parity;
 use triple::Triple;
 use triple::domain::row_count;
 use triple::refusal::Refusal;
+
+mod exact;
 
 // A point's cell. A point is moved where its own floors and parity are those of no cell in bounds.
 pub struct PointCell {
@@ -36,8 +41,22 @@ pub enum PointAnswer {
 // The cell that holds the point (i, j). A unit square is two cells, parted where the
 // fractions of i and j sum to 1; that line is the upper cell's. A point out of bounds, as float
 // noise at an edge or a hand that drags it can have it, is brought to a cell that is there, and marked.
+// The fractions and their sum are rounded, each once: just left of an edge the fraction can become 1.
 pub fn round_to_triple(i: f64, j: f64, resolution: u8) -> PointAnswer
     ensures { λ a. ⌜ saidPoint a ≡ pointOf resolution i j ⌝ }
+{
+    round(i, j, resolution, false)
+}
+
+// The same by exact fractions: a point that is not moved lies in the cell's triangle.
+pub fn round_exactly(i: f64, j: f64, resolution: u8) -> PointAnswer
+    ensures { λ a. ⌜ saidPoint a ≡ exactPointOf resolution i j ⌝ }
+{
+    round(i, j, resolution, true)
+}
+
+fn round(i: f64, j: f64, resolution: u8, exact: bool) -> PointAnswer
+    ensures { λ a. ⌜ saidPoint a ≡ pointBy (parityIn exact) resolution i j ⌝ }
 {
     if resolution > Triple::GREATEST_RESOLUTION {
         return PointAnswer::Refused(Refusal::Resolution);
@@ -45,7 +64,7 @@ pub fn round_to_triple(i: f64, j: f64, resolution: u8) -> PointAnswer
     if !are_near(i, j) {
         return PointAnswer::Refused(Refusal::Point);
     }
-    PointAnswer::At(rounded(i, j, last_row(resolution)))
+    PointAnswer::At(rounded(i, j, last_row(resolution), exact))
 }
 
 fn are_near(i: f64, j: f64) -> bool
@@ -67,16 +86,16 @@ fn is_near(x: f64) -> bool
     false
 }
 
-fn rounded(i: f64, j: f64, last: u64) -> PointCell
+fn rounded(i: f64, j: f64, last: u64, exact: bool) -> PointCell
     requires { ⌜ ((near i && near j) ≡ true) × (last ≤ 2 ^ 30) ⌝ }
-    ensures { λ p. ⌜ p ≡ pointCell last (floor i) (floor j) (parity i j) ⌝ }
+    ensures { λ p. ⌜ p ≡ pointCell last (floor i) (floor j) (parityIn exact i j) ⌝ }
 {
     let floor_i = floor_of(i);
     let floor_j = floor_of(j);
     let m = clamped(floor_i);
     let n = clamped(floor_j);
     // By the floors as they are: what is below a clamped one has no fraction above it.
-    let parity = parity_of(above(i, floor_i), above(j, floor_j));
+    let parity = parity_by(exact, i, j, floor_i, floor_j);
     PointCell {
         triple: settled(m as u64, n as u64, parity, last),
         moved: is_moved(floor_i, floor_j, parity, last),
@@ -87,13 +106,13 @@ fn rounded(i: f64, j: f64, last: u64) -> PointCell
 // digits follow a leading 1 that is not written, so a number of exponent e is that 1 and its digits,
 // taken as one whole number, over 2^(WHOLE - e). Exponent 0, without the leading 1, is for zero and
 // what is nearest to it; the greatest exponent is for the infinities and NaN.
-const SIGN: u64 = 0x8000_0000_0000_0000;
+pub(crate) const SIGN: u64 = 0x8000_0000_0000_0000;
 
-const LEADING: u64 = 0x10_0000_0000_0000;
+pub(crate) const LEADING: u64 = 0x10_0000_0000_0000;
 
 const ONE: u64 = 1023;
 
-const WHOLE: u64 = 1075;
+pub(crate) const WHOLE: u64 = 1075;
 
 fn floor_of(x: f64) -> i64
     requires { ⌜ near x ≡ true ⌝ }
@@ -121,6 +140,17 @@ fn floor_at(negative: bool, digits: u64, places: u64) -> i64
         return -1 - (((digits - 1) >> places) as i64);
     }
     (digits >> places) as i64
+}
+
+// Of a point with the floors m and n.
+fn parity_by(exact: bool, i: f64, j: f64, m: i64, n: i64) -> u64
+    requires { ⌜ ((near i && near j) ≡ true) × (m ≡ floor i) × (n ≡ floor j) ⌝ }
+    ensures { λ p. ⌜ p ≡ parityIn exact i j ⌝ }
+{
+    if exact {
+        return exact_parity(i, j);
+    }
+    parity_of(above(i, m), above(j, n))
 }
 
 // x less m, rounded once. A whole number of this size is an f64 as it is.

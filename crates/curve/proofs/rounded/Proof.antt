@@ -13,8 +13,6 @@ rounded-spec =
     (λ c κs. search needs)
     (λ c κs. search needs)
     (λ c κs. search (needs, rounding))
-    (λ c κs. search (needs, rounding))
-    (λ c κs. search needs)
     (λ c. search (needs, rounding))
     (λ c. search (needs, rounding))
     (λ c κs. search (needs, rounding))
