@@ -8,6 +8,7 @@ use Rattle.demands.proofs.Inverse.{corner-sums}
 use Rattle.demands.proofs.ExactlyOnce.{numbering}
 use Rattle.demands.proofs.Steps.{child-steps, child-step}
 use Rattle.demands.proofs.Rounded.{points}
+use Rattle.demands.proofs.RoundedExactly.{exact-points}
 use Rattle.demands.proofs.Drawn.{grammar}
 use Rattle.demands.proofs.Sketched.{drawing-refusals, drawings}
 use Rattle.demands.proofs.ReadBack.{code}
@@ -26,6 +27,7 @@ demands = record {
   child-steps = child-steps;
   child-step = child-step;
   points = points;
+  exact-points = exact-points;
   grammars = grammar;
   a5 = a5-states;
   drawing-refusals = drawing-refusals;

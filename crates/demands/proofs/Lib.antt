@@ -16,6 +16,8 @@ pub mod ExactlyOnce
 pub mod Steps
 -- the triple of a point is in bounds
 pub mod Rounded
+-- and by exact fractions
+pub mod RoundedExactly
 -- ---- any grammar
 -- what the compiler leaves in a table, descended, is the drawing
 pub mod Drawn

@@ -38,7 +38,9 @@ use Rattle.sketch.proofs.DrawLaws.{cells-told}
 use Rattle.nodes.specs.declared.Node.{Node}
 use Rattle.nodes.specs.Nodes.{canStep, childCell, bounded, cellBelow, stepTo, childStepOf, nodeOf}
 use Rattle.nodes.specs.NodeAnswers.{axiomNodeOf}
-use Rattle.curve.specs.Points.{near, pointOf}
+use Rattle.curve.specs.Points.{near, pointBy, pointOf}
+use Rattle.curve.specs.Points as Points
+use Rattle.curve.specs.ExactPoints.{exactParity, exactPointOf}
 use Rattle.code.specs.Codes.{allBits, valueOf, codeLength, codeOf, spareOf, looseOf, readOf}
 use Rattle.fold.specs.Cells.{cellsIn}
 use Rattle.fold.specs.Folds.{allBelow, ascending, foldCall}
@@ -115,9 +117,18 @@ child n d =
     by-step (within (n .resolution + 1) (named (n .orientation) (n .resolution + 1) (childCell (n .frame) (curvePlace (n .orientation) 1 d)))) λ c. answer
 
 -- ---- points
+-- whoever tells the parity
+point-by : {numbers : List ℕ} (tell : Float → Float → ℕ) (r : ℕ) (i j : Float) → T (isAmong 1 numbers) → T (isAmong 9 numbers) → AnsweredOr numbers (pointBy tell r i j)
+unfolding numberOf
+point-by tell r i j resolution far = by-test (ltb 30 r) Is.Resolution resolution λ k. by-test (not (near i && near j)) Is.Point far λ n. answer
+
 point : {numbers : List ℕ} (r : ℕ) (i j : Float) → T (isAmong 1 numbers) → T (isAmong 9 numbers) → AnsweredOr numbers (pointOf r i j)
-unfolding pointOf numberOf
-point r i j resolution far = by-test (ltb 30 r) Is.Resolution resolution λ k. by-test (not (near i && near j)) Is.Point far λ n. answer
+unfolding pointOf
+point = point-by Points.parity
+
+exact-point : (r : ℕ) (i j : Float) → AnsweredOr (1 ∷ 9 ∷ []) (exactPointOf r i j)
+unfolding exactPointOf
+exact-point r i j = point-by exactParity r i j tt tt
 
 -- ---- grammars
 word : (word buffer : List ℕ) → AnsweredOr (10 ∷ []) (countOf (told word) buffer)
@@ -276,6 +287,7 @@ refusals = record {
   node = node;
   child = child;
   point = λ r i j. point r i j tt tt;
+  exact-point = exact-point;
   word = word;
   compiler = compiler;
   descent = descent;

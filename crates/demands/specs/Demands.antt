@@ -2,12 +2,12 @@
 -- That the functions answer what the definitions say is in their contracts; that the records hold is in proofs/, a theorem for each.
 use mathlib.Core.Path.{_≡_}
 use mathlib.Core.Logic.{_↔_}
-use mathlib.Core.Bool.{Bool, true, false, _||_}
+use mathlib.Core.Bool.{Bool, true, false, _&&_, _||_}
 use mathlib.Core.List.{List, [], _∷_, _++_}
 use Prim.Native.Nat.{ℕ, _+_, _-_, _*_, _/_, _%_, _^_, _<_, _≤_}
 use lib.Dec.{T, eqb}
-use lib.IntN.{ℤ}
-use lib.Ieee.{Float}
+use lib.IntN.{ℤ, pos, negsuc}
+use lib.Ieee.{Float, fin, binary64, fits}
 use lib.ListN.{length, getD, take, drop}
 use Rattle.triple.specs.declared.Triple.{Triple}
 use Rattle.triple.specs.Refusals.{Told, told, refused, _>>=_}
@@ -36,7 +36,8 @@ use Rattle.nodes.specs.Nodes.{goodNode, childStepOf, nodeOf}
 use Rattle.nodes.specs.NodeAnswers.{axiomNodeOf}
 use Rattle.nodes.specs.NodeWalks.{walkedNode, lastStep}
 use Rattle.curve.specs.declared.PointCell.{PointCell}
-use Rattle.curve.specs.Points.{floor, parity, clamped, settled, ownTriple, pointOf}
+use Rattle.curve.specs.Points.{near, floor, parity, clamped, settled, ownTriple, pointOf}
+use Rattle.curve.specs.ExactPoints.{exactParity, exactPointOf, LiesIn}
 use Rattle.code.specs.declared.Reading.{Reading}
 use Rattle.code.specs.Codes.{codeLength, codeBytes, forwardOf, codeOf, readOf, Bytes}
 use Rattle.fold.specs.Cells.{Cell as WholeCell, Covered, cellsIn}
@@ -48,7 +49,7 @@ use Rattle.query.specs.declared.Query.{Query}
 use Rattle.query.specs.Queries.{answerOf}
 use Rattle.query.specs.Lines.{queryOf}
 use Rattle.capi.specs.Calls.{cellCall, CompileCalled}
-use Rattle.demands.specs.Dozen.{Dozen}
+use Rattle.demands.specs.Dozen.{Dozen, moved as movedTo}
 
 -- ---- calls: every call on every input ends with an answer or a numbered refusal
 abbrev pub isAmong : ℕ → List ℕ → Bool
@@ -90,6 +91,8 @@ pub record Refusals : Type 0 where
   pub child : (n : Node) (d : ℕ) → AnsweredOr (7 ∷ 8 ∷ 5 ∷ []) (childStepOf n d)
   -- a point's cell
   pub point : (r : ℕ) (i j : Float) → AnsweredOr (1 ∷ 9 ∷ []) (pointOf r i j)
+  -- the same by exact fractions
+  pub exact-point : (r : ℕ) (i j : Float) → AnsweredOr (1 ∷ 9 ∷ []) (exactPointOf r i j)
   -- a word, reversed or expanded, written to a buffer
   pub word : (word buffer : List ℕ) → AnsweredOr (10 ∷ []) (countOf (told word) buffer)
   -- a text compiled into a table
@@ -194,6 +197,25 @@ pub record Points : Type 0 where
   pub moved : (r : ℕ) (i j : Float) (p : PointCell) → pointOf r i j ≡ told p → (p .moved ≡ true) ↔ (inBounds r (ownTriple (floor i) (floor j) (parity i j)) ≡ false)
   -- where it was not, that triple is the answer
   pub unmoved : (r : ℕ) (i j : Float) (p : PointCell) → pointOf r i j ≡ told p → p .moved ≡ false → p .triple ≡ ownTriple (floor i) (floor j) (parity i j)
+
+-- ---- points by exact fractions
+pub record ExactPoints : Type 0 where
+  -- where the two parities of two f64 differ, the rounded one is 1 and the exact one is 0
+  pub differ : (i j : Float) → fits binary64 i ≡ true → fits binary64 j ≡ true → (near i && near j) ≡ true → (parity i j ≡ exactParity i j → ⊥) → (parity i j ≡ 1) × (exactParity i j ≡ 0)
+  -- what is refused is what the rounded mode refuses, by the same number
+  pub same-refusals : (r : ℕ) (i j : Float) (n : ℕ) → (pointOf r i j ≡ refused n) ↔ (exactPointOf r i j ≡ refused n)
+  -- the triple is that of the floors and the exact parity, brought into bounds as in the rounded mode
+  pub triple : (r : ℕ) (i j : Float) (p : PointCell) → exactPointOf r i j ≡ told p → p .triple ≡ settled (2 ^ r - 1) (clamped (floor i)) (clamped (floor j)) (exactParity i j)
+  -- it is always in bounds
+  pub in-bounds : (r : ℕ) (i j : Float) (p : PointCell) → exactPointOf r i j ≡ told p → inBounds r (p .triple) ≡ true
+  -- the point was moved exactly when the triple of its own floors and exact parity is out of bounds
+  pub moved : (r : ℕ) (i j : Float) (p : PointCell) → exactPointOf r i j ≡ told p → (p .moved ≡ true) ↔ (inBounds r (ownTriple (floor i) (floor j) (exactParity i j)) ≡ false)
+  -- where it was not, that triple is the answer, and the point lies in its triangle
+  pub unmoved : (r : ℕ) (i j : Float) (p : PointCell) → exactPointOf r i j ≡ told p → p .moved ≡ false → p .triple ≡ ownTriple (floor i) (floor j) (exactParity i j)
+  pub lies-in : (r : ℕ) (i j : Float) (p : PointCell) → exactPointOf r i j ≡ told p → p .moved ≡ false → LiesIn (p .triple) i j
+  -- (-2^-60, 0) at resolution 1 is (0,1,0) in the rounded mode and (0,0,0) here
+  pub edge-rounded : pointOf 1 (fin true 1 (negsuc 59)) (fin false 0 (pos 0)) ≡ movedTo (pos 0) (pos 1) (pos 0)
+  pub edge-exact : exactPointOf 1 (fin true 1 (negsuc 59)) (fin false 0 (pos 0)) ≡ movedTo (pos 0) (pos 0) (pos 0)
 
 -- ---- grammars
 -- the full drawing of a text: r passes from the starting motif that is the token m
@@ -349,6 +371,7 @@ pub record Demands : Type 1 where
   pub child-step : (n : Node) (d : ℕ) (c : ChildStep) → childStepOf n d ≡ told c → ChildStepFrom n c
   -- for every point and every resolution
   pub points : Points
+  pub exact-points : ExactPoints
   -- for every text, every table and every number of states that the compiler answers
   pub grammars : (text : List ℕ) (table : List ℤ) (n : ℕ) → compiledTo text table ≡ states n → Grammar text table n
   -- of A5's text it answers 28, whatever table has the room
