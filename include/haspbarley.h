@@ -123,6 +123,13 @@ uint8_t hb_child(uint8_t orientation, uint8_t resolution, int32_t motif, int32_t
  * Refusals: 1, 9, 10. */
 uint8_t hb_point(double i, double j, uint8_t resolution, int32_t *out, size_t out_len);
 
+/* The same by exact fractions. hb_point rounds the fractions of i and j and their sum, and just left of
+ * an edge has 1 for a fraction below it; here none is rounded, and a point that is not moved lies in the
+ * cell's triangle. Where the two tell another parity, hb_point has 1 and this has 0.
+ * Values: x y z moved (4), moved as the exact parity has it.
+ * Refusals: 1, 9, 10. */
+uint8_t hb_point_exact(double i, double j, uint8_t resolution, int32_t *out, size_t out_len);
+
 /* The corner sum of a triple's cell, at whatever resolution.
  * Values: a b (2). Refusals: 4, 10. */
 uint8_t hb_corner_sum(int32_t x, int32_t y, int32_t z, int64_t *out, size_t out_len);

@@ -4,6 +4,7 @@ extern "C" {
     fn hb_position(o: u8, r: u8, x: i32, y: i32, z: i32, out: *mut u64, len: usize) -> u8;
     fn hb_draw(o: u8, r: u8, out: *mut i32, len: usize) -> u8;
     fn hb_point(i: f64, j: f64, r: u8, out: *mut i32, len: usize) -> u8;
+    fn hb_point_exact(i: f64, j: f64, r: u8, out: *mut i32, len: usize) -> u8;
     fn hb_corner_sum(x: i32, y: i32, z: i32, out: *mut i64, len: usize) -> u8;
     fn hb_triple(a: i64, b: i64, out: *mut i32, len: usize) -> u8;
     fn hb_child(o: u8, r: u8, motif: i32, flip: i32, a: f64, b: f64, digit: u8, out_i: *mut i32, len_i: usize, out_f: *mut f64, len_f: usize) -> u8;
@@ -39,6 +40,12 @@ pub fn position(o: u8, r: u8, t: [i32; 3]) -> Result<[u64; 2], u8> {
 pub fn point(i: f64, j: f64, r: u8) -> Result<[i32; 4], u8> {
     let mut out = [0; 4];
     told(unsafe { hb_point(i, j, r, out.as_mut_ptr(), 4) }, out)
+}
+
+// x y z moved
+pub fn point_exact(i: f64, j: f64, r: u8) -> Result<[i32; 4], u8> {
+    let mut out = [0; 4];
+    told(unsafe { hb_point_exact(i, j, r, out.as_mut_ptr(), 4) }, out)
 }
 
 // a b

@@ -103,6 +103,23 @@ static void point(double i, double j, uint8_t resolution)
     show_i32(hb_point(i, j, resolution, out, 4), out, 4);
 }
 
+static void point_exact(double i, double j, uint8_t resolution)
+{
+    int32_t out[4] = {0};
+    printf("exact point %.10g %.10g %d:", i, j, resolution);
+    show_i32(hb_point_exact(i, j, resolution, out, 4), out, 4);
+}
+
+/* 2^-60 left of the edge: the fractions' sum is rounded to 1, and is below it. */
+static void left_of_edge(void)
+{
+    int32_t out[4] = {0};
+    printf("left of the edge:");
+    show_i32(hb_point(-0x1p-60, 0.0, 1, out, 4), out, 4);
+    printf("exactly:");
+    show_i32(hb_point_exact(-0x1p-60, 0.0, 1, out, 4), out, 4);
+}
+
 static void corner_sum(int32_t x, int32_t y, int32_t z)
 {
     int64_t out[2] = {0};
@@ -315,6 +332,9 @@ int main(void)
     point(2.0, 3.0, 1);
     point(-0.25, 0.5, 1);
     point(4294967296.0, 0.0, 1);
+    left_of_edge();
+    point_exact(0.5, 0.5, 1);
+    point_exact(0.5, 0.5, 31);
     code(0, 2, 6);
     code(5, 1, 3);
     code(5, 1, 4);

@@ -27,6 +27,7 @@ static void draw(void) { hb_draw(4, 6, drawing, HB_DRAWING_NUMBERS); }
 static void node(void) { hb_node(5, 30, 0, 1073741823, -1073741823, numbers, 6, places, 2); }
 static void child(void) { hb_child(5, 0, 1, 0, 0.0, 0.0, 2, numbers, 8, places, 2); }
 static void point(void) { hb_point(-0.25, 1e9, 30, numbers, 6); }
+static void point_exact(void) { hb_point_exact(-0.25, 1e9, 30, numbers, 6); }
 static void corner_sum(void) { hb_corner_sum(-1, 1, 0, sums, 3); }
 static void triple(void) { hb_triple(20, -16, numbers, 6); }
 static void code_write(void) { hb_code_write(5, 30, LAST, bytes, HB_CODE_BYTES, out, 4); }
@@ -57,6 +58,7 @@ static const struct {
     {"hb_node", node, 512},
     {"hb_child", child, 512},
     {"hb_point", point, 512},
+    {"hb_point_exact", point_exact, 512},
     {"hb_corner_sum", corner_sum, 512},
     {"hb_triple", triple, 512},
     {"hb_code_write", code_write, 512},

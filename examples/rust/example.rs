@@ -39,6 +39,7 @@ mod ffi {
             out_len: usize,
         ) -> u8;
         pub fn hb_point(i: f64, j: f64, resolution: u8, out: *mut i32, out_len: usize) -> u8;
+        pub fn hb_point_exact(i: f64, j: f64, resolution: u8, out: *mut i32, out_len: usize) -> u8;
         pub fn hb_corner_sum(x: i32, y: i32, z: i32, out: *mut i64, out_len: usize) -> u8;
         pub fn hb_triple(a: i64, b: i64, out: *mut i32, out_len: usize) -> u8;
         pub fn hb_code_write(
@@ -147,6 +148,10 @@ mod haspbarley {
 
     pub fn point(i: f64, j: f64, resolution: u8, out: &mut [i32]) -> u8 {
         unsafe { ffi::hb_point(i, j, resolution, out.as_mut_ptr(), out.len()) }
+    }
+
+    pub fn point_exact(i: f64, j: f64, resolution: u8, out: &mut [i32]) -> u8 {
+        unsafe { ffi::hb_point_exact(i, j, resolution, out.as_mut_ptr(), out.len()) }
     }
 
     pub fn corner_sum(x: i32, y: i32, z: i32, out: &mut [i64]) -> u8 {
@@ -272,6 +277,21 @@ fn point(i: f64, j: f64, resolution: u8) {
     let mut out = [0; 4];
     let status = haspbarley::point(i, j, resolution, &mut out);
     println!("point {i} {j} {resolution}: {}", gives(status, &out));
+}
+
+fn point_exact(i: f64, j: f64, resolution: u8) {
+    let mut out = [0; 4];
+    let status = haspbarley::point_exact(i, j, resolution, &mut out);
+    println!("exact point {i} {j} {resolution}: {}", gives(status, &out));
+}
+
+// 2^-60 left of the edge: the fractions' sum is rounded to 1, and is below it.
+fn left_of_edge() {
+    let (mut out, i) = ([0; 4], -(0.5f64.powi(60)));
+    let status = haspbarley::point(i, 0.0, 1, &mut out);
+    println!("left of the edge: {}", gives(status, &out));
+    let status = haspbarley::point_exact(i, 0.0, 1, &mut out);
+    println!("exactly: {}", gives(status, &out));
 }
 
 fn corner_sum(x: i32, y: i32, z: i32) {
@@ -448,6 +468,9 @@ fn main() {
     point(2.0, 3.0, 1);
     point(-0.25, 0.5, 1);
     point(4294967296.0, 0.0, 1);
+    left_of_edge();
+    point_exact(0.5, 0.5, 1);
+    point_exact(0.5, 0.5, 31);
     code(0, 2, 6);
     code(5, 1, 3);
     code(5, 1, 4);

@@ -7,7 +7,7 @@ use lib.Ieee.{Float}
 use Rattle.triple.specs.Refusals.{Told}
 use Rattle.triple.specs.Lent.{Called, CalledBoth}
 use Rattle.sketch.specs.Drawings.{drawCall}
-use Rattle.capi.specs.Calls.{cellCall, positionCall, nodeCall, stepCall, pointCall, cornerCall, tripleCall, writeCall, readCall, foldedCall, unfoldedCall, mendBoth, mendStepBoth, lineCall, descendCall, CompileCalled}
+use Rattle.capi.specs.Calls.{cellCall, positionCall, nodeCall, stepCall, pointCall, exactPointCall, cornerCall, tripleCall, writeCall, readCall, foldedCall, unfoldedCall, mendBoth, mendStepBoth, lineCall, descendCall, CompileCalled}
 
 -- ---- whatever the call gives
 module _ {A : Type 0} (call : Told (List A)) (slice : List A) where
@@ -39,6 +39,9 @@ hb-child-determined o r motif flip a b d = called-both-once (stepCall o r motif 
 
 pub hb-point-determined : (i j : Float) (r : ℕ) (out : List ℤ) (m n : ℕ) (x y : List ℤ) → Called (pointCall i j r) out m x → Called (pointCall i j r) out n y → (m ≡ n) × (x ≡ y)
 hb-point-determined i j r = called-once (pointCall i j r)
+
+pub hb-point-exact-determined : (i j : Float) (r : ℕ) (out : List ℤ) (m n : ℕ) (x y : List ℤ) → Called (exactPointCall i j r) out m x → Called (exactPointCall i j r) out n y → (m ≡ n) × (x ≡ y)
+hb-point-exact-determined i j r = called-once (exactPointCall i j r)
 
 pub hb-corner-sum-determined : (x y z : ℤ) (out : List ℤ) (m n : ℕ) (v w : List ℤ) → Called (cornerCall x y z) out m v → Called (cornerCall x y z) out n w → (m ≡ n) × (v ≡ w)
 hb-corner-sum-determined x y z = called-once (cornerCall x y z)

@@ -20,6 +20,7 @@ use Rattle.nodes.specs.Nodes.{childStepOf, nodeOf}
 use Rattle.tables.specs.Descent.{Leaf, descentOf}
 use Rattle.curve.specs.declared.PointCell.{PointCell}
 use Rattle.curve.specs.Points.{markOf, pointOf}
+use Rattle.curve.specs.ExactPoints.{exactPointOf}
 use Rattle.code.specs.declared.Reading.{Reading}
 use Rattle.code.specs.Codes.{codeOf, readOf}
 use Rattle.fold.specs.Folds.{foldCall}
@@ -102,6 +103,9 @@ stepCall o r m f a b d = do
 
 abbrev pub pointCall : Float → Float → ℕ → Told (List ℤ)
 pointCall i j r = valued pointValues (pointOf r i j)
+
+abbrev pub exactPointCall : Float → Float → ℕ → Told (List ℤ)
+exactPointCall i j r = valued pointValues (exactPointOf r i j)
 
 abbrev pub cornerCall : ℤ → ℤ → ℤ → Told (List ℤ)
 cornerCall x y z = valued pairValues (cornerSumOf (record { x = x; y = y; z = z }))

@@ -10,7 +10,7 @@ ghost use mathlib.Core.Bool.{cond};
 ghost use Prim.Native.Nat.{_+_, _*_, _<_, _≤_};
 ghost use lib.Dec.{ltb};
 ghost use Rattle.triple.specs.Lent.{statusOf, afterCall, firstOf, secondOf};
-ghost use Rattle.capi.specs.Calls.{cellCall, positionCall, nodeCall, stepCall, pointCall, cornerCall, tripleCall, readCall, writeCall, foldedCall, unfoldedCall, mendBoth, mendStepBoth, lineCall, descendCall, compileCall, compileStatus};
+ghost use Rattle.capi.specs.Calls.{cellCall, positionCall, nodeCall, stepCall, pointCall, exactPointCall, cornerCall, tripleCall, readCall, writeCall, foldedCall, unfoldedCall, mendBoth, mendStepBoth, lineCall, descendCall, compileCall, compileStatus};
 ghost use Rattle.capi.specs.Inside.Given.{clipped, frameClipped};
 ghost use Rattle.triple.specs.Refusals.{numberOf};
 ghost use Rattle.sketch.specs.Drawings.{drawCall};
@@ -170,6 +170,18 @@ pub extern "C" fn hb_point(i: f64, j: f64, resolution: u8, out: &mut [i32]) -> u
     ensures { λ n. ⌜ (n ≡ statusOf (pointCall i j resolution) (now (out .entry))) × (now (out .exit) ≡ afterCall (pointCall i j resolution) (now (out .entry))) ⌝ }
 {
     let answer = curve::round_to_triple(i, j, resolution);
+    match answer {
+        PointAnswer::At(p) => put_point(p, out),
+        PointAnswer::Refused(e) => e.number(),
+    }
+}
+
+// The same by exact fractions: x y z moved.
+#[no_mangle]
+pub extern "C" fn hb_point_exact(i: f64, j: f64, resolution: u8, out: &mut [i32]) -> u8
+    ensures { λ n. ⌜ (n ≡ statusOf (exactPointCall i j resolution) (now (out .entry))) × (now (out .exit) ≡ afterCall (exactPointCall i j resolution) (now (out .entry))) ⌝ }
+{
+    let answer = curve::round_exactly(i, j, resolution);
     match answer {
         PointAnswer::At(p) => put_point(p, out),
         PointAnswer::Refused(e) => e.number(),
