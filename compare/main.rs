@@ -1,8 +1,10 @@
 // Compares the library with the Rust, answer by answer, on the domain of the lattice: every position
 // and every triple at resolutions 0 to 7 in six orientations, random ones at 8 to 30, nodes along
-// random walks, points of every magnitude and on every edge, corner sums both ways. Prints a line for
-// each part; the first difference of a part is shown, and the program then ends with status 1.
+// random walks, points of every magnitude and on every edge, points by exact fractions against integers
+// that hold them, corner sums both ways. Prints a line for each part; the first difference of a part is
+// shown, and the program then ends with status 1.
 mod coordinate_systems;
+mod exact;
 mod haspbarley;
 mod lattice;
 mod shared;
@@ -180,6 +182,7 @@ fn main() {
     random(&mut differed, &mut source);
     nodes(&mut differed, &mut source);
     points(&mut differed, &mut source);
+    exact::exact(&mut differed, &mut source);
     corners(&mut differed, &mut source);
     println!("{differed} differences");
     std::process::exit(if differed == 0 { 0 } else { 1 });
