@@ -1,8 +1,10 @@
-// S2's leaf cells for bench/main.rs: loops over S2's own functions, which the compiler calls as it would in C++.
+// S2's leaf cells for bench/main.rs, and its normalizing for bench/folds.rs: loops over S2's own functions, which the compiler calls as it would in C++.
 // Each answers a sum of what it worked out, so that nothing is left out.
 #include <cstddef>
 #include <cstdint>
 #include <s2/s2cell_id.h>
+#include <s2/s2cell_union.h>
+#include <vector>
 
 // A leaf cell's face and its two coordinates on it.
 struct FaceIJ {
@@ -29,4 +31,19 @@ extern "C" uint64_t s2_ij_to_ids(const FaceIJ *cells, size_t count) {
 
 extern "C" uint64_t s2_id(FaceIJ cell) {
     return S2CellId::FromFaceIJ(cell.face, cell.i, cell.j).id();
+}
+
+// The cells of face 0 at some positions of a level; normalizing sorts and shortens a copy of them.
+static std::vector<S2CellId> prepared;
+
+extern "C" void s2_prepare(const uint64_t *positions, size_t count, int level) {
+    prepared.clear();
+    for (size_t k = 0; k < count; k++)
+        prepared.push_back(S2CellId::FromFacePosLevel(0, positions[k] << (2 * (S2CellId::kMaxLevel - level) + 1), level));
+}
+
+extern "C" size_t s2_normalize() {
+    std::vector<S2CellId> ids = prepared;
+    S2CellUnion::Normalize(&ids);
+    return ids.size();
 }

@@ -3,6 +3,7 @@ extern "C" {
     fn hb_cell(o: u8, r: u8, s: u64, out: *mut i32, len: usize) -> u8;
     fn hb_position(o: u8, r: u8, x: i32, y: i32, z: i32, out: *mut u64, len: usize) -> u8;
     fn hb_draw(o: u8, r: u8, out: *mut i32, len: usize) -> u8;
+    fn hb_fold(o: u8, r: u8, positions: *const u64, positions_len: usize, pairs: *mut u64, pairs_len: usize, count: *mut u64, len: usize) -> u8;
     fn hb_point(i: f64, j: f64, r: u8, out: *mut i32, len: usize) -> u8;
     fn hb_point_exact(i: f64, j: f64, r: u8, out: *mut i32, len: usize) -> u8;
     fn hb_corner_sum(x: i32, y: i32, z: i32, out: *mut i64, len: usize) -> u8;
@@ -28,6 +29,13 @@ pub fn cell(o: u8, r: u8, s: u64) -> Result<[i32; 4], u8> {
 pub fn draw(o: u8, r: u8) -> Result<Vec<i32>, u8> {
     let mut out = vec![0; 4 << (2 * r.min(6))];
     told(unsafe { hb_draw(o, r, out.as_mut_ptr(), out.len()) }, out)
+}
+
+// How many cells a list of positions folds to; their resolutions and positions are written to `pairs`.
+pub fn fold(o: u8, r: u8, positions: &[u64], pairs: &mut [u64]) -> Result<usize, u8> {
+    let mut count = [0; 1];
+    let status = unsafe { hb_fold(o, r, positions.as_ptr(), positions.len(), pairs.as_mut_ptr(), pairs.len(), count.as_mut_ptr(), 1) };
+    told(status, count[0] as usize)
 }
 
 // s flavor
