@@ -76,13 +76,13 @@ enum {
     HB_LINE = 21,       /* a line that is no query; only in the answer of hb_line */
     HB_TABLE = 22,      /* a state count, a token or an entry of a table that is not good */
     HB_PASSES = 23,     /* resolution 0 or above 6 in a drawing */
-
-    /* of operations to come: no function of this version returns them */
     HB_SPARE = 24,      /* a code whose spare bits are not zero */
     HB_ORDER = 25,      /* positions or cells out of order */
+    HB_RETIRED = 28,    /* a code to be written for VU, WU or VW */
+
+    /* of operations to come: no function of this version returns them */
     HB_PART = 26,       /* a part of a table that starts or ends past it */
     HB_POLYGON = 27,    /* text that is no cell's polygon */
-    HB_RETIRED = 28,    /* a code to be written in an orientation that is no longer */
     HB_LONG = 29        /* more codes than are checked at once */
 };
 
