@@ -7,26 +7,12 @@ mod haspbarley;
 mod lattice;
 mod shared;
 
-use shared::Random;
+use shared::{best, Random};
 use std::hint::black_box;
-use std::time::Instant;
 
 const COUNT: usize = 65_536;
 const ROUNDS: usize = 100;
 const RESOLUTION: u8 = 9;
-
-// The best time of a round, in nanoseconds for each of so many, of each of the runs; their rounds alternate.
-fn best(count: usize, runs: &mut [&mut dyn FnMut() -> u64]) -> Vec<f64> {
-    let mut least = vec![f64::MAX; runs.len()];
-    for _ in 0..ROUNDS {
-        for (run, least) in runs.iter_mut().zip(&mut least) {
-            let start = Instant::now();
-            black_box(run());
-            *least = least.min(start.elapsed().as_secs_f64() / count as f64 * 1e9);
-        }
-    }
-    least
-}
 
 // Four children into their parent on one level after another; then curve order.
 fn by_levels(positions: &[u64]) -> Vec<(u8, u64)> {
@@ -72,6 +58,7 @@ fn fold_row(name: &str, positions: &[u64]) {
     assert_eq!(folded, by_levels(positions));
     let mut s2 = normalized(positions);
     let times = best(
+        ROUNDS,
         positions.len(),
         &mut [&mut || haspbarley::fold(0, RESOLUTION, black_box(positions), &mut pairs).unwrap() as u64, &mut || by_levels(black_box(positions)).len() as u64, &mut s2],
     );
@@ -82,7 +69,7 @@ fn fold_row(name: &str, positions: &[u64]) {
 fn draw_row() {
     let mut drawn = || haspbarley::draw(0, black_box(6)).unwrap()[5] as u64;
     let mut looked_up = || (0..4096).fold(0, |sum, s| sum + haspbarley::cell(0, 6, black_box(s)).unwrap()[1] as u64);
-    let times = best(4096, &mut [&mut drawn, &mut looked_up]);
+    let times = best(ROUNDS, 4096, &mut [&mut drawn, &mut looked_up]);
     println!("draw r 6, a cell  library {:>6.2} ns   hb_cell {:>6.2} ns   ratio {:.2}", times[0], times[1], times[0] / times[1]);
 }
 

@@ -9,25 +9,11 @@ mod shared;
 
 use lattice::lsystem::{s_to_cell, triple_to_s_lattice};
 use lattice::types::Triple;
-use shared::{Random, ORIENTATIONS};
+use shared::{best, Random, ORIENTATIONS};
 use std::hint::black_box;
-use std::time::Instant;
 
 const CALLS: usize = 20_000;
 const ROUNDS: usize = 200;
-
-// The best time of a round, in nanoseconds a call, of each of the runs; their rounds alternate.
-fn best(runs: &mut [&mut dyn FnMut() -> u64]) -> Vec<f64> {
-    let mut least = vec![f64::MAX; runs.len()];
-    for _ in 0..ROUNDS {
-        for (run, least) in runs.iter_mut().zip(&mut least) {
-            let start = Instant::now();
-            black_box(run());
-            *least = least.min(start.elapsed().as_secs_f64() / CALLS as f64 * 1e9);
-        }
-    }
-    least
-}
 
 fn row(name: &str, at: &str, ours: f64, other: &str, theirs: f64) {
     println!("{name:<18} {at:<5}  library {ours:>7.1} ns   {other:<8} {theirs:>7.1} ns   ratio {:.2}", ours / theirs);
@@ -120,8 +106,8 @@ fn main() {
         let places = || triples.iter().fold(0, |sum, (o, r, t)| sum + haspbarley::position(*o as u8, *r, black_box([t.x, t.y, t.z])).unwrap()[0] % 1024);
         let rust_places = || triples.iter().fold(0, |sum, (o, r, t)| sum + triple_to_s_lattice(black_box(t), *r as usize, ORIENTATIONS[*o]) % 1024);
         assert_eq!((cells(), places()), (rust_cells(), rust_places()));
-        let down = best(&mut [&mut { cells }, &mut { rust_cells }, &mut || leaves.to_ij()]);
-        let up = best(&mut [&mut { places }, &mut { rust_places }, &mut || leaves.to_ids()]);
+        let down = best(ROUNDS, CALLS, &mut [&mut { cells }, &mut { rust_cells }, &mut || leaves.to_ij()]);
+        let up = best(ROUNDS, CALLS, &mut [&mut { places }, &mut { rust_places }, &mut || leaves.to_ids()]);
         row("position to cell", at, down[0], "the Rust", down[1]);
         row("cell to position", at, up[0], "the Rust", up[1]);
         if cfg!(s2) && at == "r 30" {

@@ -1,5 +1,6 @@
 // What the drivers share: a source of random numbers, the six orientations by number, the Rust's lookup
-// of a position with its flavor, whether a point is moved, and a comparison's count.
+// of a position with its flavor, whether a point is moved, the best time of many rounds, and a
+// comparison's count.
 use crate::lattice::lsystem::triple_to_s_lattice;
 use crate::lattice::triple::triple_flavor;
 use crate::lattice::types::{Orientation, Triple};
@@ -33,6 +34,20 @@ pub fn moved(i: f64, j: f64, r: u8) -> bool {
     let (m, n) = (i.floor(), j.floor());
     let parity = if (i - m) + (j - n) >= 1.0 { 1 } else { 0 };
     m < 0.0 || n < 0.0 || m as i64 + n as i64 + parity > (1 << r) - 1
+}
+
+// The best time of so many rounds, in nanoseconds for each of so many calls, of each of the runs; their rounds
+// alternate.
+pub fn best(rounds: usize, calls: usize, runs: &mut [&mut dyn FnMut() -> u64]) -> Vec<f64> {
+    let mut least = vec![f64::MAX; runs.len()];
+    for _ in 0..rounds {
+        for (run, least) in runs.iter_mut().zip(&mut least) {
+            let start = std::time::Instant::now();
+            std::hint::black_box(run());
+            *least = least.min(start.elapsed().as_secs_f64() / calls as f64 * 1e9);
+        }
+    }
+    least
 }
 
 // One part of the comparison: how much was compared, and how much differed.
