@@ -1,0 +1,23 @@
+-- Each contract on polygons allows one result alone: one answer, and for the writer one buffer. What an answer says has a left inverse: so two answers that say the same are the same.
+use mathlib.Core.Path.{_≡_, refl, sym, ap, _∙_}
+use mathlib.Core.List.{List}
+use Prim.Native.Nat.{ℕ}
+use Rattle.triple.specs.declared.Triple.{Triple}
+use Rattle.triple.specs.Lent.{countOf, afterCall}
+use Rattle.triple.proofs.Determined.{one-to-one, determined, numbered, answerOf}
+use Rattle.polygon.specs.declared.WriteAnswer.{WriteAnswer}
+use Rattle.polygon.specs.Polygons.{wktOf}
+use Rattle.polygon.specs.Answers.{saidWrite}
+
+-- ---- the answers
+write-answer-back : (a : WriteAnswer) → answerOf WriteAnswer.Written WriteAnswer.Refused (saidWrite a) ≡ a
+write-answer-back (WriteAnswer.Written n) = refl
+write-answer-back (WriteAnswer.Refused e) = ap WriteAnswer.Refused (numbered e)
+
+pub said-write-one-to-one : (a b : WriteAnswer) → saidWrite a ≡ saidWrite b → a ≡ b
+said-write-one-to-one = one-to-one saidWrite (answerOf WriteAnswer.Written WriteAnswer.Refused) write-answer-back
+
+-- ---- the operations
+pub wkt-write-determined : (r : ℕ) (t : Triple) (buffer : List ℕ) (a b : WriteAnswer) (x y : List ℕ)
+    → (saidWrite a ≡ countOf (wktOf r t) buffer) × (x ≡ afterCall (wktOf r t) buffer) → (saidWrite b ≡ countOf (wktOf r t) buffer) × (y ≡ afterCall (wktOf r t) buffer) → (a ≡ b) × (x ≡ y)
+wkt-write-determined r t buffer a b x y p q = (determined saidWrite said-write-one-to-one a b (p .0) (q .0), p .1 ∙ sym (q .1))

@@ -1,0 +1,8 @@
+-- What each answer of this crate says: its values, or its refusal's number.
+use Prim.Native.Nat.{ℕ}
+use Rattle.triple.specs.Refusals.{Told, told, refused, numberOf}
+use Rattle.polygon.specs.declared.WriteAnswer.{WriteAnswer}
+
+abbrev pub saidWrite : WriteAnswer → Told ℕ
+saidWrite (WriteAnswer.Written n) = told n
+saidWrite (WriteAnswer.Refused e) = refused (numberOf e)

@@ -1,0 +1,3 @@
+pub mod Polygons
+pub mod Answers
+pub mod Inside
