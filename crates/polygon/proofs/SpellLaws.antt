@@ -41,14 +41,14 @@ unfolding integer
 integer-length (pos n) h = omega (arith, length-most 9 n (h .size))
 integer-length (negsuc n) h = omega (arith, length-most 9 (suc n) (h .size))
 
-corner-parts : (p : AB) → length (cornerText p) ≡ length (integer (p .a)) + suc (length (integer (p .b)))
+pub corner-parts : (p : AB) → length (cornerText p) ≡ length (integer (p .a)) + suc (length (integer (p .b)))
 unfolding cornerText
 corner-parts p = length-append (integer (p .a)) (32 ∷ integer (p .b))
 
 pub corner-length : (p : AB) → TenDigits p → length (cornerText p) ≤ 23
 corner-length p d = omega (arith, corner-parts p, integer-length (p .a) (d .a), integer-length (p .b) (d .b))
 
-ring-parts : (c : Corners) → length (ringText c) ≡ 18 + (length (cornerText (c .p)) + length (cornerText (c .q)) + length (cornerText (c .r)) + length (cornerText (c .p)))
+pub ring-parts : (c : Corners) → length (ringText c) ≡ 18 + (length (cornerText (c .p)) + length (cornerText (c .q)) + length (cornerText (c .r)) + length (cornerText (c .p)))
 unfolding ringText
 ring-parts c =
     let p = cornerText (c .p) in
@@ -177,6 +177,25 @@ module _ (t : Triple) (c : Corners) (ec : c ≡ cellCorners t) (good : goodSum t
 
 pub ruleset spelling = (p-digits, q-digits, r-digits, rest-room, spelled)
 
+-- ---- a polygon that was spelled aside
+module _ (t : Triple) (good : goodSum t ≡ true) (mx : mag (t .x) < 2 ^ 31) (my : mag (t .y) < 2 ^ 31) (mz : mag (t .z) < 2 ^ 31) {zeros aside : List ℕ} {n : ℕ} (room : length zeros ≡ 110) (w : Put zeros 0 (polygonText t) aside n) where
+  short-text : length (polygonText t) ≤ 110
+  short-text = polygon-length t good (three-i32 t mx my mz)
+
+  aside-room : 0 + length (polygonText t) ≤ length zeros
+  aside-room = omega (arith, short-text)
+
+  aside-end : n ≡ length (polygonText t)
+  aside-end = omega (arith, put-place zeros aside 0 n (polygonText t) w aside-room)
+
+  pub spelled-most : n ≤ length aside
+  spelled-most = omega (arith, aside-end, short-text, put-length zeros aside 0 n (polygonText t) w)
+
+  pub spelled-is : take n aside ≡ polygonText t
+  spelled-is =
+      ap (take n) (put-stored zeros aside 0 n (polygonText t) w aside-room ∙ sets-eq (polygonText t) zeros 0 aside-room)
+      ∙ take-at (polygonText t) (drop (0 + length (polygonText t)) zeros) n (sym aside-end)
+
 -- ---- the writer's ways out: by the tests, and by the text that was spelled aside
 abbrev by-tests : {A : Type 0} → Bool → Bool → Bool → A → Told A
 by-tests deep bad out a = refuse deep Is.Resolution (refuse bad Is.Sum (refuse out Is.Bounds (told a)))
@@ -220,25 +239,14 @@ module _ (r : ℕ) (t : Triple) (tests : FlavorAnswer) (et : saidFlavor tests �
 
     -- n bytes of it stand aside
     module _ (mx : mag (t .x) < 2 ^ 31) (my : mag (t .y) < 2 ^ 31) (mz : mag (t .z) < 2 ^ 31) {zeros aside : List ℕ} {n : ℕ} (room : length zeros ≡ 110) (w : Put zeros 0 (polygonText t) aside n) where
-      short-text : length (polygonText t) ≤ 110
-      short-text = polygon-length t sum-good (three-i32 t mx my mz)
-
-      aside-room : 0 + length (polygonText t) ≤ length zeros
-      aside-room = omega (arith, short-text)
-
-      aside-end : n ≡ length (polygonText t)
-      aside-end = omega (arith, put-place zeros aside 0 n (polygonText t) w aside-room)
-
       pub aside-most : n ≤ length aside
-      aside-most = omega (arith, aside-end, short-text, put-length zeros aside 0 n (polygonText t) w)
+      aside-most = spelled-most t sum-good mx my mz room w
 
       pub aside-counted : n ≡ length (take n aside)
       aside-counted = sym (length-take-le n aside aside-most)
 
       aside-is : take n aside ≡ polygonText t
-      aside-is =
-          ap (take n) (put-stored zeros aside 0 n (polygonText t) w aside-room ∙ sets-eq (polygonText t) zeros 0 aside-room)
-          ∙ take-at (polygonText t) (drop (0 + length (polygonText t)) zeros) n (sym aside-end)
+      aside-is = spelled-is t sum-good mx my mz room w
 
       module _ {after : List ℕ} {end : ℕ} (copied : Put buffer 0 (take n aside) after end) where
         put-text : Put buffer 0 (polygonText t) after end

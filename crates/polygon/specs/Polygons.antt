@@ -67,3 +67,50 @@ wktOf r t =
     (refuse (not (goodSum t)) Is.Sum
     (refuse (not (inBounds r t)) Is.Bounds
     (told (polygonText t))))
+
+-- ---- the reader: the triple is taken from the text's first two corners, and its own polygon is then the text, byte for byte, or the text is none
+-- what is read, or the refusal of a text that is no cell's polygon
+abbrev pub readable : {A : Type 0} → Option A → Told A
+readable (some v) = told v
+readable none = refused (numberOf Is.Polygon)
+
+-- the corner that stands at a place, two decimals with a byte between them, and the place after it
+unfoldable pub cornerAt : List ℕ → ℕ → Told (AB × ℕ)
+cornerAt text at = do
+  first ← readable (decimalAt text at)
+  second ← readable (decimalAt text (first .1 + 1))
+  told (ab (first .0) (second .0), second .1)
+
+-- the parity by the first two corners: they are level where it is 1
+unfoldable pub parityFrom : AB → AB → ℕ
+parityFrom p q = cond (equal (p .b) (q .b)) 1 0
+
+-- the triple of sum s whose cell starts at (a, b), if there is one: then 4 y is a, and 4 x is b + 4 s
+unfoldable pub startingAt : ℕ → AB → Triple
+startingAt s p =
+    let x = quotZ (p .b) (pos 4) +ℤ pos s in
+    let y = quotZ (p .a) (pos 4) in
+    record { x = x; y = y; z = pos s -ℤ x -ℤ y }
+
+-- a triple of three i32
+unfoldable pub narrow : Triple → Told Triple
+narrow t = refuse (not (pass (fits32 (t .x) (fits32 (t .y) (fits32 (t .z) []))))) Is.Polygon (told t)
+
+-- whether two texts are the same
+unfoldable pub sameText : List ℕ → List ℕ → Bool
+sameText [] [] = true
+sameText [] (b ∷ v) = false
+sameText (a ∷ u) [] = false
+sameText (a ∷ u) (b ∷ v) = eqb a b && sameText u v
+
+-- THE TRIPLE whose polygon a text is
+unfoldable pub spelledCell : List ℕ → Told Triple
+spelledCell text = do
+  first ← cornerAt text 10
+  second ← cornerAt text (first .1 + 2)
+  t ← narrow (startingAt (parityFrom (first .0) (second .0)) (first .0))
+  refuse (not (sameText text (polygonText t))) Is.Polygon (told t)
+
+-- THE CELL that a text is at a resolution
+unfoldable pub cellOfWkt : ℕ → List ℕ → Told Triple
+cellOfWkt r text = atResolution r (spelledCell text >>= λ t. refuse (not (inBounds r t)) Is.Bounds (told t))

@@ -14,8 +14,10 @@
 // - What is written is read back, and what is read is what would be written (proofs/ReadBack.antt).
 ghost use mathlib.Core.Path.{_≡_};
 ghost use Rattle.triple.specs.Lent.{countOf, afterCall};
-ghost use Rattle.polygon.specs.Polygons.{wktOf};
-ghost use Rattle.polygon.specs.Answers.{saidWrite};
+ghost use Rattle.polygon.specs.Polygons.{wktOf, cellOfWkt};
+ghost use Rattle.polygon.specs.Answers.{saidWrite, saidRead};
+use reading::Spelled;
+use reading::cell_spelled;
 use spelling::spell;
 use text::put::put_bytes;
 use triple::FlavorAnswer;
@@ -23,11 +25,17 @@ use triple::Triple;
 use triple::refusal::Refusal;
 
 mod corners;
+mod reading;
 mod spelling;
 
 // The count of bytes written, or why none was.
 pub enum WriteAnswer {
     Written(usize),
+    Refused(Refusal),
+}
+
+pub enum ReadAnswer {
+    Cell(Triple),
     Refused(Refusal),
 }
 
@@ -47,4 +55,21 @@ pub fn write(resolution: u8, t: Triple, out: &mut [u8]) -> WriteAnswer
         return WriteAnswer::Refused(Refusal::Room);
     }
     WriteAnswer::Written(end)
+}
+
+// Reads the triple whose polygon a text is.
+pub fn read(resolution: u8, text: &[u8]) -> ReadAnswer
+    ensures { λ a. ⌜ saidRead a ≡ cellOfWkt resolution (now (text .entry)) ⌝ }
+{
+    if resolution > Triple::GREATEST_RESOLUTION {
+        return ReadAnswer::Refused(Refusal::Resolution);
+    }
+    let spelled = cell_spelled(text);
+    let Spelled::Cell(t) = spelled else {
+        return ReadAnswer::Refused(Refusal::Polygon);
+    };
+    if !t.in_bounds(resolution) {
+        return ReadAnswer::Refused(Refusal::Bounds);
+    }
+    ReadAnswer::Cell(t)
 }
