@@ -29,6 +29,7 @@ use Rattle.mend.specs.declared.Change.{Change}
 use Rattle.mend.specs.declared.Stepped.{Stepped}
 use Rattle.mend.specs.declared.Tally.{Tally}
 use Rattle.mend.specs.Mends.{pieceOf, changesOf, mendCall}
+use Rattle.polygon.specs.Polygons.{wktOf, cellOfWkt}
 use Rattle.query.specs.Lines.{answerLine}
 use Rattle.grammar.specs.Texts.{linesOf}
 use Rattle.grammar.specs.Curves.{tokenBytes}
@@ -154,6 +155,13 @@ steppedValues x = x .taken ∷ x .written ∷ changeNumber (x .change) ∷ []
 -- what the first step of mending writes; how many bytes it takes and writes, and the change
 abbrev pub mendStepBoth : List ℕ → Told (List ℕ × List ℕ)
 mendStepBoth rest = valued (λ bytes. (bytes, steppedValues (record { taken = pieceOf rest .taken; written = length bytes; change = pieceOf rest .change }))) (told (pieceOf rest .bytes))
+
+-- a polygon's text, and its length
+abbrev pub wktWriteCall : ℕ → ℤ → ℤ → ℤ → Told (List ℕ × List ℕ)
+wktWriteCall r x y z = counting (λ n. n) (wktOf r (record { x = x; y = y; z = z }))
+
+abbrev pub wktReadCall : ℕ → List ℕ → Told (List ℤ)
+wktReadCall r text = valued tripleValues (cellOfWkt r text)
 
 -- the answer to a line as the program prints it, without LF, and its length
 abbrev pub lineCall : List ℕ → Told (List ℕ × List ℕ)

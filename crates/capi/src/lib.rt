@@ -10,7 +10,7 @@ ghost use mathlib.Core.Bool.{cond};
 ghost use Prim.Native.Nat.{_+_, _*_, _<_, _≤_};
 ghost use lib.Dec.{ltb};
 ghost use Rattle.triple.specs.Lent.{statusOf, afterCall, firstOf, secondOf};
-ghost use Rattle.capi.specs.Calls.{cellCall, positionCall, nodeCall, stepCall, pointCall, exactPointCall, cornerCall, tripleCall, readCall, writeCall, foldedCall, unfoldedCall, mendBoth, mendStepBoth, lineCall, descendCall, compileCall, compileStatus};
+ghost use Rattle.capi.specs.Calls.{cellCall, positionCall, nodeCall, stepCall, pointCall, exactPointCall, cornerCall, tripleCall, readCall, writeCall, wktWriteCall, wktReadCall, foldedCall, unfoldedCall, mendBoth, mendStepBoth, lineCall, descendCall, compileCall, compileStatus};
 ghost use Rattle.capi.specs.Inside.Given.{clipped, frameClipped};
 ghost use Rattle.triple.specs.Refusals.{numberOf};
 ghost use Rattle.sketch.specs.Drawings.{drawCall};
@@ -28,6 +28,8 @@ use nodes::ChildAnswer;
 use nodes::Frame;
 use nodes::Node;
 use nodes::ReachedAnswer;
+use polygon::PolygonAnswer;
+use polygon::TextAnswer;
 use put::put_cell;
 use put::put_count;
 use put::put_drawn;
@@ -323,6 +325,38 @@ pub extern "C" fn hb_mend_step(rest: &[u8], out: &mut [u8], counts: &mut [u64]) 
     match answer {
         StepAnswer::Taken(x) => put_stepped(x, counts),
         StepAnswer::Refused(e) => e.number(),
+    }
+}
+
+// Writes the polygon of a cell to `text`, and its length to `out`.
+#[no_mangle]
+pub extern "C" fn hb_wkt_write(
+    resolution: u8,
+    x: i32,
+    y: i32,
+    z: i32,
+    text: &mut [u8],
+    out: &mut [u64],
+) -> u8
+    ensures { λ n. ⌜ (n ≡ statusOf (firstOf (wktWriteCall resolution x y z) (now (out .entry))) (now (text .entry))) × (now (text .exit) ≡ afterCall (firstOf (wktWriteCall resolution x y z) (now (out .entry))) (now (text .entry))) × (now (out .exit) ≡ afterCall (secondOf (wktWriteCall resolution x y z) (now (text .entry))) (now (out .entry))) ⌝ }
+{
+    let room = lendable(text.len(), out.len());
+    let answer = polygon::write(resolution, Triple::new(x, y, z), &mut text[..room]);
+    match answer {
+        TextAnswer::Written(count) => put_count(count, out),
+        TextAnswer::Refused(e) => e.number(),
+    }
+}
+
+// Reads the cell whose polygon a text is: x y z.
+#[no_mangle]
+pub extern "C" fn hb_wkt_read(resolution: u8, text: &[u8], out: &mut [i32]) -> u8
+    ensures { λ n. ⌜ (n ≡ statusOf (wktReadCall resolution (now (text .entry))) (now (out .entry))) × (now (out .exit) ≡ afterCall (wktReadCall resolution (now (text .entry))) (now (out .entry))) ⌝ }
+{
+    let answer = polygon::read(resolution, text);
+    match answer {
+        PolygonAnswer::Cell(t) => put_triple(t, out),
+        PolygonAnswer::Refused(e) => e.number(),
     }
 }
 

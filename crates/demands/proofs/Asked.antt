@@ -16,6 +16,7 @@ use Rattle.demands.proofs.Turned.{code-read}
 use Rattle.demands.proofs.WholeCodes.{whole-codes}
 use Rattle.demands.proofs.Folded.{folding, unfolds}
 use Rattle.demands.proofs.Mended.{mending}
+use Rattle.demands.proofs.Ringed.{polygons}
 use Rattle.demands.proofs.TwelveCases.{dozen}
 
 pub demands : Demands
@@ -39,5 +40,6 @@ demands = record {
   fold-empty = empty-folds;
   unfolds = unfolds;
   mending = mending;
+  polygons = polygons;
   dozen = dozen;
 }

@@ -36,6 +36,9 @@ pub mod WholeCodes
 pub mod Folded
 -- lists of codes, mended
 pub mod Mended
+-- ---- polygons
+-- a polygon is its cell's and no other's
+pub mod Ringed
 -- ---- the dozen, and the whole
 -- the twelve worked examples
 pub mod TwelveCases

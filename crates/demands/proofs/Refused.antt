@@ -12,6 +12,7 @@ use lib.IntN.{ℤ, pos, negℤ}
 use lib.Ieee.{Float}
 use lib.ListN.{length, getD, take, drop}
 use borrow.Author.Tests.{ltb-false, leb-false, eqb-false, not-false}
+use Rattle.whole.specs.Tests.{Test, pass}
 use Rattle.triple.specs.declared.Triple.{Triple}
 use Rattle.triple.specs.declared.refusal.Refusal.the-variants as Is
 use Rattle.triple.specs.Refusals.{Told, told, refused, numberOf, refuse, _>>=_}
@@ -20,7 +21,7 @@ use Rattle.triple.specs.Orientations.{isBackward, curvePlace}
 use Rattle.triple.specs.Domain.{domainOf}
 use Rattle.triple.specs.Lent.{valued, countOf}
 use Rattle.turtle.specs.declared.AB.{AB}
-use Rattle.turtle.specs.Corners.{cornerSumOf, tripleOf}
+use Rattle.turtle.specs.Corners.{cornerSumOf, tripleOf, fits32}
 use Rattle.turtle.proofs.CornerLaws.{inverse-refused}
 use Rattle.text.specs.Words.{wordsOf}
 use Rattle.grammar.specs.Texts.{Row, linesOf, rowsOf}
@@ -46,8 +47,9 @@ use Rattle.fold.specs.Cells.{cellsIn}
 use Rattle.fold.specs.Folds.{allBelow, ascending, foldCall}
 use Rattle.fold.specs.Unfolds.{shallow, inside, ordered, unfoldCall}
 use Rattle.mend.specs.Mends.{stepOf, mendCall, mendedTo}
+use Rattle.polygon.specs.Polygons.{polygonText, wktOf, readable, cornerAt, parityFrom, startingAt, narrow, sameText, spelledCell, cellOfWkt}
 use Rattle.query.specs.declared.Query.{Query}
-use Rattle.text.specs.Decimals.{u8, u64, i32}
+use Rattle.text.specs.Decimals.{u8, u64, i32, decimalAt}
 use Rattle.text.specs.Patterns.{f64}
 use Rattle.query.specs.Queries.{answerOf}
 use Rattle.query.specs.Lines.{number, positionRest, cellRest, pointRest, headed, starts, queryOf}
@@ -243,6 +245,42 @@ mending-step : (rest out : List ℕ) → AnsweredOr (10 ∷ []) (stepOf rest out
 unfolding stepOf
 mending-step rest out = by-step (by-room out tt answer) λ n. answer
 
+-- ---- polygons
+polygon-writing : (r : ℕ) (t : Triple) (buffer : List ℕ) → AnsweredOr (1 ∷ 4 ∷ 5 ∷ 10 ∷ []) (countOf (wktOf r t) buffer)
+unfolding wktOf numberOf
+polygon-writing r t buffer =
+    by-room buffer tt
+    (by-test (ltb 30 r) Is.Resolution tt λ k.
+    by-test (not (goodSum t)) Is.Sum tt λ g.
+    by-test (not (inBounds r t)) Is.Bounds tt λ b. answer)
+
+by-readable : {A : Type 0} (read : Option A) → AnsweredOr (1 ∷ 27 ∷ 5 ∷ []) (readable read)
+unfolding numberOf
+by-readable (some v) = answer
+by-readable none = refusal tt
+
+corner-read : (text : List ℕ) (at : ℕ) → AnsweredOr (1 ∷ 27 ∷ 5 ∷ []) (cornerAt text at)
+unfolding cornerAt
+corner-read text at = by-step (by-readable (decimalAt text at)) λ a. by-step (by-readable (decimalAt text (a .1 + 1))) λ b. answer
+
+abbrev fits-three : Triple → List Test
+fits-three t = fits32 (t .x) (fits32 (t .y) (fits32 (t .z) []))
+
+spelled : (text : List ℕ) → AnsweredOr (1 ∷ 27 ∷ 5 ∷ []) (spelledCell text)
+unfolding spelledCell narrow numberOf
+spelled text =
+    by-step (corner-read text 10) λ p.
+    by-step (corner-read text (p .1 + 2)) λ q.
+    by-step (by-test (not (pass (fits-three (startingAt (parityFrom (p .0) (q .0)) (p .0))))) Is.Polygon tt λ n. answer) λ t.
+    by-test (not (sameText text (polygonText t))) Is.Polygon tt λ same. answer
+
+polygon-reading : (r : ℕ) (text : List ℕ) → AnsweredOr (1 ∷ 27 ∷ 5 ∷ []) (cellOfWkt r text)
+unfolding cellOfWkt numberOf
+polygon-reading r text =
+    by-test (ltb 30 r) Is.Resolution tt λ k.
+    by-step (spelled text) λ t.
+    by-test (not (inBounds r t)) Is.Bounds tt λ b. answer
+
 -- ---- lines and queries
 by-number : {A : Type 0} (read : Option A) → AnsweredOr (21 ∷ []) (number read)
 unfolding numberOf
@@ -298,6 +336,8 @@ refusals = record {
   unfolds = unfolds;
   mending = mending;
   mending-step = mending-step;
+  polygon-writing = polygon-writing;
+  polygon-reading = polygon-reading;
   line = line;
   query = query;
   print = print;

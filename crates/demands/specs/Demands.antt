@@ -11,13 +11,14 @@ use lib.Ieee.{Float, fin, binary64, fits}
 use lib.ListN.{length, getD, take, drop}
 use Rattle.triple.specs.declared.Triple.{Triple}
 use Rattle.triple.specs.Refusals.{Told, told, refused, _>>=_}
-use Rattle.triple.specs.Triples.{inBounds, parityOf, closedFlavor, flavorOf}
+use Rattle.triple.specs.Triples.{goodSum, inBounds, parityOf, closedFlavor, flavorOf}
 use Rattle.triple.specs.Domain.{domainOf}
 use Rattle.triple.specs.Orientations.{isBackward}
 use Rattle.triple.specs.Lent.{valued, countOf, afterCall, Called, CalledBoth}
 use Rattle.turtle.specs.declared.AB.{AB}
 use Rattle.turtle.specs.declared.walk.DrawnCell.{DrawnCell}
-use Rattle.turtle.specs.Corners.{cornerSumOf, tripleOf, HasTriple}
+use Rattle.turtle.specs.Plane.{_⊕_}
+use Rattle.turtle.specs.Corners.{cornerSum, cornerSumOf, tripleOf, ThreeI32, HasTriple}
 use Rattle.grammar.specs.Texts.{linesOf}
 use Rattle.grammar.specs.Curves.{drawing, tokenBytes, letterOf}
 use Rattle.tables.specs.Children.{noCell}
@@ -45,6 +46,7 @@ use Rattle.fold.specs.Folds.{has, ascending, foldCall}
 use Rattle.fold.specs.Unfolds.{apart, unfoldCall}
 use Rattle.fold.specs.Foldings.{cellsOf, Step, Foldings, Ended, Lone}
 use Rattle.mend.specs.Mends.{mendOf, changesOf, Sound, Reported, Every, stepOf, mendCall, mendedTo}
+use Rattle.polygon.specs.Polygons.{cellCorners, ringText, polygonText, wktOf, cellOfWkt}
 use Rattle.query.specs.declared.Query.{Query}
 use Rattle.query.specs.Queries.{answerOf}
 use Rattle.query.specs.Lines.{queryOf}
@@ -112,6 +114,10 @@ pub record Refusals : Type 0 where
   -- a list mended, and one step of that
   pub mending : (list out : List ℕ) → AnsweredOr (10 ∷ []) (mendedTo list out)
   pub mending-step : (rest out : List ℕ) → AnsweredOr (10 ∷ []) (stepOf rest out)
+  -- a polygon written
+  pub polygon-writing : (r : ℕ) (t : Triple) (buffer : List ℕ) → AnsweredOr (1 ∷ 4 ∷ 5 ∷ 10 ∷ []) (countOf (wktOf r t) buffer)
+  -- a polygon read
+  pub polygon-reading : (r : ℕ) (text : List ℕ) → AnsweredOr (1 ∷ 27 ∷ 5 ∷ []) (cellOfWkt r text)
   -- the query of a line
   pub line : (line : List ℕ) → AnsweredOr (21 ∷ []) (queryOf line)
   -- the answer to a query: the numbers of all three kinds
@@ -355,6 +361,29 @@ pub record Mending (list : List ℕ) : Type 0 where
   -- and of no other list no change is told
   pub unchanged : (changesOf list ≡ []) ↔ Sound list
 
+-- ---- polygons
+-- a text is the polygon of a cell: of a triple of three i32 with sum 0 or 1
+pub record IsPolygon (text : List ℕ) (t : Triple) : Type 0 where
+  pub good : goodSum t ≡ true
+  pub three : ThreeI32 t
+  pub text-is : text ≡ polygonText t
+
+pub record Polygons : Type 0 where
+  -- the three corners are the cell's own: their sum is its corner sum
+  pub corners : (t : Triple) → goodSum t ≡ true → cellCorners t .p ⊕ cellCorners t .q ⊕ cellCorners t .r ≡ cornerSum t
+  -- what is exported is their ring, the first of them repeated
+  pub ring : (r : ℕ) (t : Triple) (text : List ℕ) → wktOf r t ≡ told text → text ≡ ringText (cellCorners t)
+  -- in at most 106 bytes
+  pub long : (r : ℕ) (t : Triple) (text : List ℕ) → wktOf r t ≡ told text → length text ≤ 106
+  -- import of an export gives the triple back, whatever the buffer held
+  pub back : (r : ℕ) (t : Triple) (buffer : List ℕ) (n : ℕ) → countOf (wktOf r t) buffer ≡ told n → cellOfWkt r (take n (afterCall (wktOf r t) buffer)) ≡ told t
+  -- export of an import gives the text back, byte for byte
+  pub forth : (r : ℕ) (text : List ℕ) (t : Triple) → cellOfWkt r text ≡ told t → wktOf r t ≡ told text
+  -- text that is no cell's polygon, of another spelling or with corners of no cell, is refused by 27
+  pub other : (r : ℕ) (text : List ℕ) → r ≤ 30 → ((t : Triple) → IsPolygon text t → ⊥) → cellOfWkt r text ≡ refused 27
+  -- and that of a cell which is not in bounds by 5
+  pub outside : (r : ℕ) (text : List ℕ) (t : Triple) → r ≤ 30 → IsPolygon text t → inBounds r t ≡ false → cellOfWkt r text ≡ refused 5
+
 -- ---- ALL THAT WAS ASKED
 pub record Demands : Type 1 where
   -- every call on every input ends with an answer or a numbered refusal
@@ -394,5 +423,7 @@ pub record Demands : Type 1 where
   pub unfolds : (o r : ℕ) (pairs positions : List ℕ) → unfoldCall o r pairs ≡ told positions → Unfolding o r pairs positions
   -- for every list of bytes
   pub mending : (list : List ℕ) → Bytes list → Mending list
+  -- for every triple, every text and every resolution
+  pub polygons : Polygons
   -- the twelve worked examples
   pub dozen : Dozen

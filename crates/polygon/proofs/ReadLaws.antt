@@ -189,14 +189,14 @@ module _ (u v : List ℕ) where
   same-start = refl
 
   module _ (i : ℕ) (inv : sameText (drop i u) (drop i v) ≡ sameText u v) (long : length u ≡ length v) where
-    pub same-end : i ≤ length u → length u ≤ i → true ≡ sameText u v
+    pub same-end : i ≤ length v → length v ≤ i → true ≡ sameText u v
     unfolding sameText
-    same-end h k = rw (drop-of-length-le u k, drop-of-length-le v {i = i} (omega arith)) at inv
+    same-end h k = rw (drop-of-length-le u {i = i} (omega arith), drop-of-length-le v k) at inv
 
-    module _ (h : i < length u) where
+    module _ (h : i < length v) where
       split : sameText (drop i u) (drop i v) ≡ eqb (getD u i 0) (getD v i 0) && sameText (drop (suc i) u) (drop (suc i) v)
       unfolding sameText
-      split = rw (drop-cons u i 0 h, drop-cons v i 0 (omega arith))
+      split = rw (drop-cons u i 0 (omega arith), drop-cons v i 0 h)
 
       pub same-more : getD u i 0 ≡ getD v i 0 → sameText (drop (i + 1) u) (drop (i + 1) v) ≡ sameText u v
       same-more e = rw add-one (sym (split ∙ rw (eq-eqb (getD u i 0) (getD v i 0) e)) ∙ inv)
@@ -204,7 +204,7 @@ module _ (u v : List ℕ) where
       pub same-stop : (getD u i 0 ≡ getD v i 0 → ⊥) → false ≡ sameText u v
       same-stop e = sym (split ∙ rw (ne-eqb (getD u i 0) (getD v i 0) e)) ∙ inv
 
-pub lengths-differ : (u v : List ℕ) → (length u ≡ length v → ⊥) → false ≡ sameText u v
+lengths-differ : (u v : List ℕ) → (length u ≡ length v → ⊥) → false ≡ sameText u v
 unfolding sameText
 lengths-differ [] [] n = absurd (n refl)
 lengths-differ [] (b ∷ v) n = refl
@@ -215,7 +215,13 @@ lengths-differ (a ∷ u) (b ∷ v) n = go (eqb a b) (lengths-differ u v (λ e. n
     go true e = e
     go false e = refl
 
-pub ruleset same-texts = (same-start, same-end, same-more, same-stop, lengths-differ)
+pub shorter : (u v : List ℕ) → length u < length v → false ≡ sameText u v
+shorter u v h = lengths-differ u v (λ e. omega arith)
+
+pub longer : (u v : List ℕ) → length v < length u → false ≡ sameText u v
+longer u v h = lengths-differ u v (λ e. omega arith)
+
+pub ruleset same-texts = (same-start, same-end, same-more, same-stop, shorter, longer)
 
 -- ---- a triple's own polygon, spelled aside, against a text
 module _ (t : Triple) (good : goodSum t ≡ true) (mx : mag (t .x) < 2 ^ 31) (my : mag (t .y) < 2 ^ 31) (mz : mag (t .z) < 2 ^ 31) {zeros own : List ℕ} {n : ℕ} (room : length zeros ≡ 110) (w : Put zeros 0 (polygonText t) own n) where

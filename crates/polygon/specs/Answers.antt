@@ -2,13 +2,13 @@
 use Prim.Native.Nat.{ℕ}
 use Rattle.triple.specs.declared.Triple.{Triple}
 use Rattle.triple.specs.Refusals.{Told, told, refused, numberOf}
-use Rattle.polygon.specs.declared.WriteAnswer.{WriteAnswer}
-use Rattle.polygon.specs.declared.ReadAnswer.{ReadAnswer}
+use Rattle.polygon.specs.declared.TextAnswer.{TextAnswer}
+use Rattle.polygon.specs.declared.PolygonAnswer.{PolygonAnswer}
 
-abbrev pub saidWrite : WriteAnswer → Told ℕ
-saidWrite (WriteAnswer.Written n) = told n
-saidWrite (WriteAnswer.Refused e) = refused (numberOf e)
+abbrev pub saidWrite : TextAnswer → Told ℕ
+saidWrite (TextAnswer.Written n) = told n
+saidWrite (TextAnswer.Refused e) = refused (numberOf e)
 
-abbrev pub saidRead : ReadAnswer → Told Triple
-saidRead (ReadAnswer.Cell t) = told t
-saidRead (ReadAnswer.Refused e) = refused (numberOf e)
+abbrev pub saidRead : PolygonAnswer → Told Triple
+saidRead (PolygonAnswer.Cell t) = told t
+saidRead (PolygonAnswer.Refused e) = refused (numberOf e)

@@ -29,47 +29,47 @@ mod reading;
 mod spelling;
 
 // The count of bytes written, or why none was.
-pub enum WriteAnswer {
+pub enum TextAnswer {
     Written(usize),
     Refused(Refusal),
 }
 
-pub enum ReadAnswer {
+pub enum PolygonAnswer {
     Cell(Triple),
     Refused(Refusal),
 }
 
 // Writes the polygon of a triple's cell at the front of a buffer. It is spelled aside first: a refused
 // call leaves the buffer as it was. The tests of a cell are those that its flavor makes.
-pub fn write(resolution: u8, t: Triple, out: &mut [u8]) -> WriteAnswer
+pub fn write(resolution: u8, t: Triple, out: &mut [u8]) -> TextAnswer
     ensures { λ a. ⌜ (saidWrite a ≡ countOf (wktOf resolution t) (now (out .entry))) × (now (out .exit) ≡ afterCall (wktOf resolution t) (now (out .entry))) ⌝ }
 {
     let tests = t.flavor(resolution);
     if let FlavorAnswer::Refused(e) = tests {
-        return WriteAnswer::Refused(e);
+        return TextAnswer::Refused(e);
     }
     let mut text = [0u8; 110];
     let n = spell(&mut text, t);
     let end = put_bytes(out, 0, &text[..n]);
     if end > out.len() {
-        return WriteAnswer::Refused(Refusal::Room);
+        return TextAnswer::Refused(Refusal::Room);
     }
-    WriteAnswer::Written(end)
+    TextAnswer::Written(end)
 }
 
 // Reads the triple whose polygon a text is.
-pub fn read(resolution: u8, text: &[u8]) -> ReadAnswer
+pub fn read(resolution: u8, text: &[u8]) -> PolygonAnswer
     ensures { λ a. ⌜ saidRead a ≡ cellOfWkt resolution (now (text .entry)) ⌝ }
 {
     if resolution > Triple::GREATEST_RESOLUTION {
-        return ReadAnswer::Refused(Refusal::Resolution);
+        return PolygonAnswer::Refused(Refusal::Resolution);
     }
     let spelled = cell_spelled(text);
     let Spelled::Cell(t) = spelled else {
-        return ReadAnswer::Refused(Refusal::Polygon);
+        return PolygonAnswer::Refused(Refusal::Polygon);
     };
     if !t.in_bounds(resolution) {
-        return ReadAnswer::Refused(Refusal::Bounds);
+        return PolygonAnswer::Refused(Refusal::Bounds);
     }
-    ReadAnswer::Cell(t)
+    PolygonAnswer::Cell(t)
 }

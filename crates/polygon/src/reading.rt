@@ -95,11 +95,14 @@ fn starting_at(s: u8, p: AB) -> Spelled
 fn same_text(u: &[u8], v: &[u8]) -> bool
     ensures { λ b. ⌜ b ≡ sameText (now (u .entry)) (now (v .entry)) ⌝ }
 {
-    if u.len() != v.len() {
+    if u.len() < v.len() {
+        return false;
+    }
+    if u.len() > v.len() {
         return false;
     }
     let mut i: usize = 0;
-    while i < u.len() {
+    while i < v.len() {
         if u[i] != v[i] {
             return false;
         }

@@ -9,25 +9,28 @@ use Rattle.polygon.proofs.reading.same_text.Statement.{statement}
 use Rattle.polygon.proofs.reading.same_text.Tie as tie
 
 abbrev Inv-loop : tie.InvT-loop
-Inv-loop u v i₀ i = (i ≤ length u) × ((length u ≡ length v) × (sameText (drop i u) (drop i v) ≡ sameText u v))
+Inv-loop u v i₀ i = (i ≤ length v) × ((length u ≡ length v) × (sameText (drop i u) (drop i v) ≡ sameText u v))
 
 abbrev μ-loop : tie.MeasureT-loop
-μ-loop u v i₀ i = length u - i
+μ-loop u v i₀ i = length v - i
 
 returns : tie.Need-returns Inv-loop μ-loop
 returns c = search (needs, same-texts)
 
+returns-2 : tie.Need-returns-2 Inv-loop μ-loop
+returns-2 c = search (needs, same-texts)
+
 loop-holds : tie.Need-loop-holds Inv-loop μ-loop
 loop-holds c = search (needs, same-texts)
 
-shared-slice-read-if2 : tie.Need-shared-slice-read-if2 Inv-loop μ-loop
-shared-slice-read-if2 c = search (needs, same-texts)
+shared-slice-read-if3 : tie.Need-shared-slice-read-if3 Inv-loop μ-loop
+shared-slice-read-if3 c = search (needs, same-texts)
 
-shared-slice-read-if2-2 : tie.Need-shared-slice-read-if2-2 Inv-loop μ-loop
-shared-slice-read-if2-2 c = search (needs, same-texts)
+shared-slice-read-if3-2 : tie.Need-shared-slice-read-if3-2 Inv-loop μ-loop
+shared-slice-read-if3-2 c = search (needs, same-texts)
 
-returns-2 : tie.Need-returns-2 Inv-loop μ-loop
-returns-2 c = search (needs, same-texts)
+returns-3 : tie.Need-returns-3 Inv-loop μ-loop
+returns-3 c = search (needs, same-texts)
 
 add-i : tie.Need-add-i Inv-loop μ-loop
 add-i c = search (needs, same-texts)
@@ -38,8 +41,8 @@ loop-less c = search (needs, same-texts)
 loop-again : tie.Need-loop-again Inv-loop μ-loop
 loop-again c = search (needs, same-texts)
 
-returns-3 : tie.Need-returns-3 Inv-loop μ-loop
-returns-3 c = search (needs, same-texts)
+returns-4 : tie.Need-returns-4 Inv-loop μ-loop
+returns-4 c = search (needs, same-texts)
 
 pub same-text-spec : {M : Type 1} → statement M
 same-text-spec =
@@ -48,11 +51,12 @@ same-text-spec =
     Inv-loop
     μ-loop
     returns
-    loop-holds
-    shared-slice-read-if2
-    shared-slice-read-if2-2
     returns-2
+    loop-holds
+    shared-slice-read-if3
+    shared-slice-read-if3-2
+    returns-3
     add-i
     loop-less
     loop-again
-    returns-3)
+    returns-4)
