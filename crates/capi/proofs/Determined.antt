@@ -7,7 +7,7 @@ use lib.Ieee.{Float}
 use Rattle.triple.specs.Refusals.{Told}
 use Rattle.triple.specs.Lent.{Called, CalledBoth}
 use Rattle.sketch.specs.Drawings.{drawCall}
-use Rattle.capi.specs.Calls.{cellCall, positionCall, nodeCall, stepCall, pointCall, exactPointCall, cornerCall, tripleCall, writeCall, readCall, foldedCall, unfoldedCall, mendBoth, mendStepBoth, lineCall, descendCall, CompileCalled}
+use Rattle.capi.specs.Calls.{cellCall, positionCall, nodeCall, stepCall, pointCall, exactPointCall, cornerCall, tripleCall, writeCall, readCall, wktWriteCall, wktReadCall, foldedCall, unfoldedCall, mendBoth, mendStepBoth, lineCall, descendCall, CompileCalled}
 
 -- ---- whatever the call gives
 module _ {A : Type 0} (call : Told (List A)) (slice : List A) where
@@ -71,6 +71,13 @@ hb-mend-determined list out = called-both-once (mendBoth list out) out
 pub hb-mend-step-determined : (rest out counts : List ℕ) (m n : ℕ) (v w x y : List ℕ)
     → CalledBoth (mendStepBoth rest) out counts m v x → CalledBoth (mendStepBoth rest) out counts n w y → (m ≡ n) × (v ≡ w) × (x ≡ y)
 hb-mend-step-determined rest = called-both-once (mendStepBoth rest)
+
+pub hb-wkt-write-determined : (r : ℕ) (x y z : ℤ) (text out : List ℕ) (m n : ℕ) (t u v w : List ℕ)
+    → CalledBoth (wktWriteCall r x y z) text out m t v → CalledBoth (wktWriteCall r x y z) text out n u w → (m ≡ n) × (t ≡ u) × (v ≡ w)
+hb-wkt-write-determined r x y z = called-both-once (wktWriteCall r x y z)
+
+pub hb-wkt-read-determined : (r : ℕ) (text : List ℕ) (out : List ℤ) (m n : ℕ) (x y : List ℤ) → Called (wktReadCall r text) out m x → Called (wktReadCall r text) out n y → (m ≡ n) × (x ≡ y)
+hb-wkt-read-determined r text = called-once (wktReadCall r text)
 
 pub hb-line-determined : (line text out : List ℕ) (m n : ℕ) (v w x y : List ℕ) → CalledBoth (lineCall line) text out m v x → CalledBoth (lineCall line) text out n w y → (m ≡ n) × (v ≡ w) × (x ≡ y)
 hb-line-determined line = called-both-once (lineCall line)

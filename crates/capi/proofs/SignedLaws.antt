@@ -9,12 +9,13 @@ use mir.Syntax.{Width, w32, w64}
 use mir.Val.{SFits, toZ, ofZ}
 use mir.ValLaws.{toZ-ofZ}
 use Rattle.triple.specs.declared.Triple.{Triple}
-use Rattle.triple.specs.Refusals.{told}
+use Rattle.triple.specs.Refusals.{Told, told}
 use Rattle.turtle.specs.declared.AB.{AB}
 use Rattle.curve.specs.declared.PointCell.{PointCell}
 use Rattle.curve.specs.Points.{markOf}
 use Rattle.capi.specs.Calls.{pointValues}
-use Rattle.triple.specs.Lent.{Called, CalledBoth}
+use Rattle.polygon.specs.Polygons.{wktOf}
+use Rattle.triple.specs.Lent.{Counted, Called, CalledBoth}
 use Rattle.triple.proofs.LentLaws.{sets-front, put-whole, both-whole}
 
 abbrev pub readBack : Width → List ℤ → List ℤ
@@ -52,3 +53,7 @@ triple-made {x} {y} {z} f e = rw (toZ-ofZ w32 x (f .0), toZ-ofZ w32 y (f .1 .0),
 
 pub pair-made : {a b : ℤ} → Fitting w64 (a ∷ b ∷ []) → {p : AB} → p ≡ record { a = toZ w64 (ofZ w64 a); b = toZ w64 (ofZ w64 b) } → p ≡ record { a = a; b = b }
 pair-made {a} {b} f e = rw (toZ-ofZ w64 a (f .0), toZ-ofZ w64 b (f .1 .0)) at e
+
+-- what a polygon's writer says of the one triple it says of the other
+pub polygon-made : (r : ℕ) (slice : List ℕ) (said : Told ℕ) (after : List ℕ) {t u : Triple} → t ≡ u → Counted (wktOf r t) slice said after → Counted (wktOf r u) slice said after
+polygon-made r slice said after e p = subst (λ (t : Triple). Counted (wktOf r t) slice said after) e p
