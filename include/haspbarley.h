@@ -38,6 +38,7 @@
 #define HB_VERSION_NUMBER (HB_VERSION_MAJOR * 10000 + HB_VERSION_MINOR * 100 + HB_VERSION_PATCH)
 
 #define HB_CODE_BYTES 9        /* the longest code of a position */
+#define HB_WKT_BYTES 106       /* the longest polygon of a cell */
 #define HB_LINE_BYTES 64       /* the longest line that is a query */
 #define HB_ANSWER_BYTES 107    /* room for the answer to any line */
 #define HB_STATE_NUMBERS 41    /* a table's numbers for each state */
@@ -78,11 +79,11 @@ enum {
     HB_PASSES = 23,     /* resolution 0 or above 6 in a drawing */
     HB_SPARE = 24,      /* a code whose spare bits are not zero */
     HB_ORDER = 25,      /* positions or cells out of order */
+    HB_POLYGON = 27,    /* text that is no cell's polygon, or not in its spelling */
     HB_RETIRED = 28,    /* a code to be written for VU, WU or VW */
 
     /* of operations to come: no function of this version returns them */
     HB_PART = 26,       /* a part of a table that starts or ends past it */
-    HB_POLYGON = 27,    /* text that is no cell's polygon */
     HB_LONG = 29        /* more codes than are checked at once */
 };
 
@@ -151,6 +152,18 @@ uint8_t hb_code_write(uint8_t orientation, uint8_t resolution, uint64_t s, uint8
  * 4^resolution - 1 - s in the place of its own orientation and s. For any other code old is 0.
  * Refusals: 11 where there is no byte, 1, 2, 11 where the code is cut short, 24 where a spare bit is set, 10. */
 uint8_t hb_code_read(const uint8_t *bytes, size_t bytes_len, uint64_t *out, size_t out_len);
+
+/* Writes the polygon of a cell as WKT, `POLYGON ((a b, a b, a b, a b))`, in whole units of the lattice,
+ * the first corner repeated: at most HB_WKT_BYTES.
+ * Values: the text to text, and its length (1) to out; both or, on a refusal, neither.
+ * Refusals: 1, 4, 5, 10. */
+uint8_t hb_wkt_write(uint8_t resolution, int32_t x, int32_t y, int32_t z, uint8_t *text, size_t text_len, uint64_t *out,
+                     size_t out_len);
+
+/* Reads the cell whose polygon a text is, in exactly that spelling: no other space, no leading zero, no
+ * other first corner, nothing behind the last bracket.
+ * Values: x y z (3). Refusals: 1, 27, 5, 10. */
+uint8_t hb_wkt_read(uint8_t resolution, const uint8_t *text, size_t text_len, int32_t *out, size_t out_len);
 
 /* The fewest whole cells that cover a strictly ascending list of positions: four children become their
  * parent wherever all four are there, again and again up to resolution 0.

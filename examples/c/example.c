@@ -193,6 +193,29 @@ static void mend(void)
     printf("mended into one byte less: ! %d, count left %" PRIu64 "\n", status, counts[0]);
 }
 
+/* The polygon of a cell, and the cell that it is read back as. */
+static void polygon(uint8_t resolution, int32_t x, int32_t y, int32_t z)
+{
+    uint8_t text[HB_WKT_BYTES];
+    uint64_t length[1];
+    int32_t out[3] = {0};
+    printf("polygon %d %d %d %d:", resolution, x, y, z);
+    uint8_t status = hb_wkt_write(resolution, x, y, z, text, HB_WKT_BYTES, length, 1);
+    if (status != HB_OK) {
+        printf(" ! %d\n", status);
+        return;
+    }
+    printf(" %.*s reads", (int)length[0], (const char *)text);
+    show_i32(hb_wkt_read(resolution, text, (size_t)length[0], out, 3), out, 3);
+}
+
+static void read_polygon(uint8_t resolution, const char *text)
+{
+    int32_t out[3] = {0};
+    printf("read %d %s:", resolution, text);
+    show_i32(hb_wkt_read(resolution, (const uint8_t *)text, strlen(text), out, 3), out, 3);
+}
+
 /* A table of one motif that no compiler wrote: each of its four states has itself for its children. */
 static int32_t by_hand[4 * HB_STATE_NUMBERS];
 
@@ -342,6 +365,12 @@ int main(void)
     old_code();
     mend();
     folds();
+    polygon(0, 0, 0, 0);
+    polygon(1, 0, 1, 0);
+    polygon(30, -1073741823, 1073741823, 0);
+    polygon(1, 0, 2, -2);
+    read_polygon(1, "POLYGON ((0 0, 4 -4, 4 0, 0 0)) ");
+    read_polygon(1, "POLYGON ((4 -4, 4 0, 0 0, 4 -4))");
     write_by_hand();
     descend(4, 1, 0, 3);
     descend(4, 2, 1, 6);

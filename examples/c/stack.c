@@ -19,7 +19,7 @@ static int64_t sums[3];
 static uint64_t out[5];
 static uint64_t run[64] = {0, 1, 2, 3, 4, 5, 6, 7, 8, 9, 10, 11, 12, 13, 14, 15};
 static double places[2];
-static uint8_t bytes[HB_CODE_BYTES], text[HB_ANSWER_BYTES];
+static uint8_t bytes[HB_CODE_BYTES], text[HB_ANSWER_BYTES], polygon[HB_WKT_BYTES];
 
 static void cell(void) { hb_cell(5, 30, LAST, numbers, 6); }
 static void position(void) { hb_position(5, 30, 0, 1073741823, -1073741823, out, 4); }
@@ -36,6 +36,8 @@ static void fold(void) { hb_fold(5, 30, run, 16, run + 16, 32, out, 4); }
 static void unfold(void) { hb_unfold(5, 30, run + 48, 2, run, 64, out, 4); }
 static void mend(void) { hb_mend(bytes, HB_CODE_BYTES, text, HB_ANSWER_BYTES, out, 2); }
 static void mend_step(void) { hb_mend_step(bytes, HB_CODE_BYTES, text, HB_ANSWER_BYTES, out, 3); }
+static void wkt_write(void) { hb_wkt_write(30, -1073741823, 1073741823, 0, polygon, HB_WKT_BYTES, out, 4); }
+static void wkt_read(void) { hb_wkt_read(30, polygon, HB_WKT_BYTES, numbers, 6); }
 static void descend(void) { hb_descend(table, HB_TABLE_NUMBERS, 28, 30, 13, LAST, sums, 3); }
 static void compile(void) { hb_compile((const uint8_t *)A5, sizeof A5 - 1, table, HB_TABLE_NUMBERS, out, 4); }
 
@@ -67,6 +69,8 @@ static const struct {
     {"hb_unfold", unfold, 512},
     {"hb_mend", mend, 512},
     {"hb_mend_step", mend_step, 512},
+    {"hb_wkt_write", wkt_write, 512},
+    {"hb_wkt_read", wkt_read, 512},
     {"hb_descend", descend, 512},
 };
 

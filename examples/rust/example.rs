@@ -88,6 +88,17 @@ mod ffi {
             counts: *mut u64,
             counts_len: usize,
         ) -> u8;
+        pub fn hb_wkt_write(
+            resolution: u8,
+            x: i32,
+            y: i32,
+            z: i32,
+            text: *mut u8,
+            text_len: usize,
+            out: *mut u64,
+            out_len: usize,
+        ) -> u8;
+        pub fn hb_wkt_read(resolution: u8, text: *const u8, text_len: usize, out: *mut i32, out_len: usize) -> u8;
         pub fn hb_descend(
             table: *const i32,
             table_len: usize,
@@ -192,6 +203,14 @@ mod haspbarley {
         unsafe {
             ffi::hb_mend_step(rest.as_ptr(), rest.len(), out.as_mut_ptr(), out.len(), counts.as_mut_ptr(), counts.len())
         }
+    }
+
+    pub fn wkt_write(resolution: u8, [x, y, z]: [i32; 3], text: &mut [u8], out: &mut [u64]) -> u8 {
+        unsafe { ffi::hb_wkt_write(resolution, x, y, z, text.as_mut_ptr(), text.len(), out.as_mut_ptr(), out.len()) }
+    }
+
+    pub fn wkt_read(resolution: u8, text: &[u8], out: &mut [i32]) -> u8 {
+        unsafe { ffi::hb_wkt_read(resolution, text.as_ptr(), text.len(), out.as_mut_ptr(), out.len()) }
     }
 
     pub fn compile(text: &[u8], table: &mut [i32], out: &mut [u64]) -> u16 {
@@ -376,6 +395,25 @@ fn folds() {
     println!("unfold a cell inside another: ! {status}, left {}, count left {}", left[0], count[0]);
 }
 
+/// The polygon of a cell, and the cell that it is read back as.
+fn polygon(resolution: u8, [x, y, z]: [i32; 3]) {
+    let (mut text, mut length, mut out) = ([0; 106], [0], [0; 3]);
+    let status = haspbarley::wkt_write(resolution, [x, y, z], &mut text, &mut length);
+    let text = &text[..length[0] as usize];
+    print!("polygon {resolution} {x} {y} {z}: {}", gives(status, &[String::from_utf8_lossy(text)]));
+    if status == 0 {
+        let status = haspbarley::wkt_read(resolution, text, &mut out);
+        print!(" reads {}", gives(status, &out));
+    }
+    println!();
+}
+
+fn read_polygon(resolution: u8, text: &str) {
+    let mut out = [0; 3];
+    let status = haspbarley::wkt_read(resolution, text.as_bytes(), &mut out);
+    println!("read {resolution} {text}: {}", gives(status, &out));
+}
+
 /// A table of one motif that no compiler wrote: each of its four states has itself for its children.
 fn by_hand() -> [i32; 4 * 41] {
     let places = [[0, 0], [4, 0], [4, -4], [8, -4]];
@@ -478,6 +516,12 @@ fn main() {
     old_code();
     mend();
     folds();
+    polygon(0, [0, 0, 0]);
+    polygon(1, [0, 1, 0]);
+    polygon(30, [-1073741823, 1073741823, 0]);
+    polygon(1, [0, 2, -2]);
+    read_polygon(1, "POLYGON ((0 0, 4 -4, 4 0, 0 0)) ");
+    read_polygon(1, "POLYGON ((4 -4, 4 0, 0 0, 4 -4))");
     let table = by_hand();
     descend(&table, 4, 1, 0, 3);
     descend(&table, 4, 2, 1, 6);
