@@ -4,6 +4,7 @@ extern "C" {
     fn hb_position(o: u8, r: u8, x: i32, y: i32, z: i32, out: *mut u64, len: usize) -> u8;
     fn hb_draw(o: u8, r: u8, out: *mut i32, len: usize) -> u8;
     fn hb_fold(o: u8, r: u8, positions: *const u64, positions_len: usize, pairs: *mut u64, pairs_len: usize, count: *mut u64, len: usize) -> u8;
+    fn hb_mend(list: *const u8, list_len: usize, out: *mut u8, out_len: usize, counts: *mut u64, len: usize) -> u8;
     fn hb_point(i: f64, j: f64, r: u8, out: *mut i32, len: usize) -> u8;
     fn hb_point_exact(i: f64, j: f64, r: u8, out: *mut i32, len: usize) -> u8;
     fn hb_corner_sum(x: i32, y: i32, z: i32, out: *mut i64, len: usize) -> u8;
@@ -36,6 +37,13 @@ pub fn fold(o: u8, r: u8, positions: &[u64], pairs: &mut [u64]) -> Result<usize,
     let mut count = [0; 1];
     let status = unsafe { hb_fold(o, r, positions.as_ptr(), positions.len(), pairs.as_mut_ptr(), pairs.len(), count.as_mut_ptr(), 1) };
     told(status, count[0] as usize)
+}
+
+// How many bytes a list is mended to, and how many changes are told; the bytes are written to `out`.
+pub fn mend(list: &[u8], out: &mut [u8]) -> Result<[u64; 2], u8> {
+    let mut counts = [0; 2];
+    let status = unsafe { hb_mend(list.as_ptr(), list.len(), out.as_mut_ptr(), out.len(), counts.as_mut_ptr(), 2) };
+    told(status, counts)
 }
 
 // s flavor

@@ -45,7 +45,7 @@ use Rattle.fold.specs.Cells.{Cell as WholeCell, Covered, cellsIn}
 use Rattle.fold.specs.Folds.{has, ascending, foldCall}
 use Rattle.fold.specs.Unfolds.{apart, unfoldCall}
 use Rattle.fold.specs.Foldings.{cellsOf, Step, Foldings, Ended, Lone}
-use Rattle.mend.specs.Mends.{mendOf, changesOf, Sound, Reported, Every, stepOf, mendCall, mendedTo}
+use Rattle.mend.specs.Mends.{longestCode, pieceOf, mendOf, changesOf, Sound, Reported, Every, stepOf, mendCall, mendedTo}
 use Rattle.polygon.specs.Polygons.{cellCorners, ringText, polygonText, wktOf, cellOfWkt}
 use Rattle.query.specs.declared.Query.{Query}
 use Rattle.query.specs.Queries.{answerOf}
@@ -360,6 +360,9 @@ pub record Mending (list : List ℕ) : Type 0 where
   pub kept : Sound list → mendOf list ≡ list
   -- and of no other list no change is told
   pub unchanged : (changesOf list ≡ []) ↔ Sound list
+  -- it may come in parts: nine bytes at the front tell the first step of the whole, and mending goes on behind it
+  pub in-parts : (front more : List ℕ) → list ≡ front ++ more → longestCode ≤ length front
+      → (pieceOf list ≡ pieceOf front) × (mendOf list ≡ pieceOf front .bytes ++ mendOf (drop (pieceOf front .taken) front ++ more))
 
 -- ---- polygons
 -- a text is the polygon of a cell: of a triple of three i32 with sum 0 or 1

@@ -14,6 +14,8 @@ pub mod WalkLaws
 pub mod Mended
 -- each line tells of what begins at its offset
 pub mod Offsets
+-- a list that comes in parts
+pub mod Fronts
 -- ---- all operations
 -- each contract allows one result alone
 pub mod Determined

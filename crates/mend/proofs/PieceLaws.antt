@@ -18,7 +18,7 @@ use Rattle.mend.specs.declared.Change.the-variants.{Kept, Spare, Turned,
 use Rattle.mend.specs.Mends.{Piece, copied, anew, lost, unreadBy, unreadOf, pieceBy, pieceOf, tellings}
 
 -- ---- by cases
-piece-by : (rest : List ℕ) → 0 < length rest → {t : Told Reading} → t ≡ readOf rest → pieceOf rest ≡ pieceBy rest t
+pub piece-by : (rest : List ℕ) → 0 < length rest → {t : Told Reading} → t ≡ readOf rest → pieceOf rest ≡ pieceBy rest t
 unfolding pieceOf
 piece-by [] h e = let z : ⊥ = omega arith in absurd z
 piece-by (b ∷ rest) h e = ap (pieceBy (b ∷ rest)) (sym e)

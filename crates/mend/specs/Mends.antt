@@ -92,6 +92,10 @@ linesFrom at (p ∷ pieces) = linesAt at (tellings (p .change)) ++ linesFrom (at
 unfoldable pub changesOf : List ℕ → List Line
 changesOf list = linesFrom 0 (piecesOf list)
 
+-- ---- a list that comes in parts: no code has more bytes than these, so of a front of so many the piece is known
+abbrev pub longestCode : ℕ
+longestCode = 9
+
 -- ---- a list that is sound: it reads from its beginning to its end as codes without the mark
 pub data Sound : List ℕ → Type 0 where
   ended : {list : List ℕ} → list ≡ [] → Sound list
