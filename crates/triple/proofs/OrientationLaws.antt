@@ -1,9 +1,9 @@
 -- The orientations: their recipes by computation, and places counted from either end.
 use mathlib.Core.Path.{_≡_, refl, ap, _∙_}
-use mathlib.Core.Bool.{Bool, true, false, not, cond}
+use mathlib.Core.Bool.{Bool, true, false, cond}
 use Prim.Native.Nat.{ℕ, zero, suc, _-_, _*_, _/_, _%_, _^_, _<_, _≤_}
 use native.Mathlib.Omega.{arith}
-use borrow.Author.Tests.{lt-leb, ne-eqb, not-true, not-false}
+use borrow.Author.Tests.{lt-leb, ne-eqb}
 use lib.Dec.{leb, eqb, ltb}
 use mir.Syntax.{w64}
 use mir.Val.{Fits}
@@ -52,17 +52,13 @@ motif-small o = go (leb o 1) (leb o 3)
 
 -- ---- places from either end
 module _ (backward : Bool) (n place : ℕ) where
-  pub place-forward : not backward ≡ true → place ≡ placeFrom backward n place
+  pub place-forward : backward ≡ false → place ≡ placeFrom backward n place
   unfolding placeFrom
-  place-forward h = rw (not-true backward h)
+  place-forward h = rw h
 
-  pub place-past : not backward ≡ false → n ≤ place → 0 ≡ placeFrom backward n place
+  pub place-backward : backward ≡ true → {p : ℕ} → p ≡ n - 1 - place → p ≡ placeFrom backward n place
   unfolding placeFrom
-  place-past h k = rw (not-false backward h) (omega arith)
-
-  pub place-backward : not backward ≡ false → n - 1 - place ≡ placeFrom backward n place
-  unfolding placeFrom
-  place-backward h = rw (not-false backward h)
+  place-backward h e = rw h e
 
   pub place-below : place < n → placeFrom backward n place < n
   unfolding placeFrom
@@ -81,7 +77,7 @@ module _ (backward : Bool) (n place : ℕ) where
       go true = omega arith
       go false = refl
 
-pub ruleset places = (place-forward, place-past, place-backward)
+pub ruleset places = (place-forward, place-backward)
 
 pub place-small : (o r s : ℕ) → s < 4 ^ r → curvePlace o r s < 4 ^ r
 unfolding curvePlace

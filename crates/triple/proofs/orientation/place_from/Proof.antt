@@ -8,8 +8,6 @@ pub place-from-spec : {M : Type 1} → statement M
 place-from-spec =
     tie.close
     (tie.spec
+    (λ c κs. search needs)
     (λ c. search (needs, places))
-    (λ c. search (needs, places))
-    (λ c. search needs)
-    (λ c. search needs)
     (λ c. search (needs, places)))
