@@ -17,7 +17,7 @@ use Rattle.triple.specs.Refusals.{Told, told, refused, _>>=_}
 use Rattle.triple.specs.Domain.{greatestResolution, greatestOrientation}
 use Rattle.triple.specs.Orientations.{isBackward}
 use Rattle.triple.proofs.OrientationLaws.{place-small}
-use Rattle.triple.proofs.RefusalLaws.{never, passed}
+use Rattle.triple.proofs.RefusalLaws.{never, passed, stepped}
 use Rattle.code.specs.declared.Reading.{Reading}
 use Rattle.code.specs.Codes.{bitsOf, valueOf, bytesOf, allBits, codeLength, codeBytes, forwardOf, readingOf, codeOf, spareOf, looseOf, readOf, Bytes}
 use Rattle.code.proofs.BitLaws.{bits-low, value-whole}
@@ -115,10 +115,6 @@ loose-spelled [] small p = never (read-empty [] refl ∙ p)
 loose-spelled (b ∷ rest) small p = first-spelled b rest small (read-first (b ∷ rest) (λ z. omega (arith, z)) (small 0) ∙ p)
 
 -- what is read is read loosely too, and no spare bit is set
-pub stepped : {A B : Type 0} {f : A → Told B} (t : Told A) {b : B} → (t >>= f) ≡ told b → (a : A) × (t ≡ told a) × (f a ≡ told b)
-stepped (told a) p = (a, refl, p)
-stepped (refused n) p = never p
-
 pub read-loosely : (bytes : List ℕ) {x : Reading} → readOf bytes ≡ told x → (looseOf bytes ≡ told x) × (spareOf (x .resolution) bytes ≡ 0)
 unfolding readOf
 read-loosely bytes {x} p =

@@ -12,9 +12,9 @@ use Rattle.lsystem.specs.declared.cell.Cell.{Cell}
 use Rattle.lsystem.specs.declared.Position.{Position}
 use Rattle.lsystem.specs.Cells.{drawnCell, named, cellAt, cellOf, positionOf}
 use Rattle.lsystem.proofs.Numbering.{cellOn, position-names, triple-named, unnamed-refused}
-use Rattle.triple.proofs.RefusalLaws.{passed}
+use Rattle.triple.proofs.RefusalLaws.{passed, told-same}
 use Rattle.demands.specs.Demands.{tripleNamed, positionGiven, Numbering}
-use Rattle.demands.proofs.ToldLaws.{told-same, told-refused, answered}
+use Rattle.demands.proofs.ToldLaws.{told-refused, answered}
 
 -- the curve is the drawing, from resolution 1 up
 drawn : (o r s : ℕ) → o ≤ 5 → r ≤ 30 → 1 ≤ r → s < 4 ^ r → cellOf o r s ≡ named o r (drawnCell o r s)

@@ -9,9 +9,9 @@ use Rattle.triple.specs.Triples.{goodSum}
 use Rattle.turtle.specs.declared.AB.{AB}
 use Rattle.turtle.specs.Corners.{cornerSum, cornerSumOf, tripleOf, HasTriple}
 use Rattle.turtle.proofs.CornerLaws.{inverse-sound, inverse-complete, inverse-refused, corner-sum-unique}
-use Rattle.triple.proofs.RefusalLaws.{passed}
+use Rattle.triple.proofs.RefusalLaws.{passed, told-same}
 use Rattle.demands.specs.Demands.{CornerSums}
-use Rattle.demands.proofs.ToldLaws.{told-same, told-refused}
+use Rattle.demands.proofs.ToldLaws.{told-refused}
 
 -- a triple that has a corner sum is good, and that is it
 summed : (t : Triple) (p : AB) → cornerSumOf t ≡ told p → (goodSum t ≡ true) × (cornerSum t ≡ p)

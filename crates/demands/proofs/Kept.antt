@@ -1,5 +1,5 @@
 -- A REFUSED CALL changes no lent buffer: by what each definition has where the call is refused.
-use mathlib.Core.Path.{_≡_, refl, ap, _∙_}
+use mathlib.Core.Path.{_≡_, refl, sym, ap, _∙_}
 use mathlib.Core.Bool.{Bool, true, false, cond}
 use mathlib.Core.List.{List, _++_}
 use Prim.Native.Nat.{ℕ, _+_, _*_, _/_}
@@ -10,7 +10,7 @@ use lib.ListN.{length, drop}
 use Rattle.triple.specs.declared.refusal.Refusal.the-variants.{Room}
 use Rattle.triple.specs.Refusals.{Told, told, refused, numberOf}
 use Rattle.triple.specs.Lent.{valued, countOf, statusOf, afterCall, Called, firstOf, secondOf, CalledBoth}
-use Rattle.triple.proofs.LentLaws.{counted-kept}
+use Rattle.triple.proofs.LentLaws.{counted-kept, valued-refused}
 use Rattle.grammar.specs.Texts.{linesOf}
 use Rattle.grammar.specs.Curves.{tokenBytes}
 use Rattle.grammar.specs.Tests.{Verdict, fine, fault}
@@ -20,7 +20,6 @@ use Rattle.tables.specs.Verdicts.{verdict}
 use Rattle.fold.specs.Folds.{foldCall}
 use Rattle.capi.specs.Calls.{countValues, compileCall, faultLine, compileStatus, CompileCalled}
 use Rattle.demands.specs.Demands.{LentBuffers}
-use Rattle.demands.proofs.ToldLaws.{value-refused}
 
 table : (text : List ℕ) (table : List ℤ) → ((n : ℕ) → compiledTo text table ≡ states n → ⊥) → afterCompile text table ≡ table
 unfolding compiledTo afterCompile afterCall
@@ -33,7 +32,7 @@ table text t none = go (verdict text) (ltb (length t) (length (tableFor text))) 
     go (fault n line) short e none = refl
 
 folds : (o r : ℕ) (positions slice : List ℕ) (n : ℕ) → valued (λ n. n / 2) (countOf (foldCall o r positions) slice) ≡ refused n → afterCall (foldCall o r positions) slice ≡ slice
-folds o r positions slice n e = counted-kept (foldCall o r positions) slice (value-refused (λ n. n / 2) (countOf (foldCall o r positions) slice) e)
+folds o r positions slice n e = counted-kept (foldCall o r positions) slice (valued-refused (λ n. n / 2) (countOf (foldCall o r positions) slice) (sym e))
 
 -- ---- calls from C
 module _ {A : Type 0} where

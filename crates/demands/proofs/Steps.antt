@@ -15,7 +15,8 @@ use Rattle.nodes.specs.NodeWalks.{lastStep}
 use Rattle.nodes.proofs.NodeWalk.{walk-nodes, walk-cell, node-good}
 use Rattle.nodes.proofs.AnsweredSteps.{child-in-bounds, child-orientation, child-resolution}
 use Rattle.demands.specs.Demands.{ChildSteps, ChildStepFrom}
-use Rattle.demands.proofs.ToldLaws.{told-same, told-refused}
+use Rattle.triple.proofs.RefusalLaws.{told-same}
+use Rattle.demands.proofs.ToldLaws.{told-refused}
 
 -- the cell of an answer with a node beside it
 cell-of : (t : Told Cell) (n : Node) → ((t >>= λ c. told (record { cell = c; node = n })) >>= λ (c : ChildStep). told (c .cell)) ≡ t

@@ -1,5 +1,5 @@
 -- What is told and what is refused: read through tests (`refuse`) and steps (`>>=`).
-use mathlib.Core.Path.{_≡_, refl, ap}
+use mathlib.Core.Path.{_≡_, refl}
 use mathlib.Core.Bool.{Bool, true, false, cond}
 use mathlib.Core.List.{List}
 use Prim.Native.Nat.{ℕ}
@@ -11,9 +11,6 @@ use Rattle.triple.specs.declared.refusal.Refusal.the-variants.{Room}
 use Rattle.triple.specs.Refusals.{Told, told, refused, numberOf, refuse, _>>=_}
 use Rattle.triple.specs.Lent.{valued, countOf}
 use Rattle.demands.specs.Demands.{isAmong, AnsweredOr, answer, refusal}
-
-pub told-same : {A : Type 0} {a b : A} → told a ≡ told b → a ≡ b
-told-same e = cc
 
 pub told-refused : {A : Type 0} {t : Told A} {a : A} {n : ℕ} → t ≡ told a → t ≡ refused n → ⊥
 told-refused e f = let z : _≡_ {A = ℕ} 0 1 = cc in omega arith
@@ -47,10 +44,3 @@ by-answer e = rw e answer
 pub by-value : {A B : Type 0} {numbers : List ℕ} (f : A → B) {t : Told A} → AnsweredOr numbers t → AnsweredOr numbers (valued f t)
 by-value f answer = answer
 by-value f (refusal h) = refusal h
-
-pub value-refused : {A B : Type 0} (f : A → B) (t : Told A) {n : ℕ} → valued f t ≡ refused n → t ≡ refused n
-value-refused f (told a) e = absurd (told-refused refl e)
-value-refused f (refused m) e = ap refused (same e)
-  where
-    same : {B : Type 0} {m n : ℕ} → _≡_ {A = Told B} (refused m) (refused n) → m ≡ n
-    same e = cc

@@ -10,7 +10,7 @@ use Rattle.code.proofs.RoundTrip.{read-back}
 use Rattle.code.proofs.Canonical.{ownOrientation, ownPosition, loose-spelled, read-loosely, codes-canonical}
 use Rattle.lsystem.specs.Cells.{cellOf}
 use Rattle.demands.specs.Demands.{WholeCode, WholeCodes}
-use Rattle.demands.proofs.ToldLaws.{told-same}
+use Rattle.triple.proofs.RefusalLaws.{told-same}
 use Rattle.demands.proofs.Turned.{reading-names}
 
 own : (bytes : List ℕ) (x : Reading) → WholeCode bytes x → (o s : ℕ) × (o ≤ 5) × (s < 4 ^ x .resolution) × (codeBytes o (x .resolution) s ≡ bytes)

@@ -20,7 +20,8 @@ use Rattle.triple.specs.Domain.{positionCount}
 use Rattle.triple.proofs.DomainLaws.{positions-are}
 use Rattle.fold.specs.Folds.{ascending}
 use Rattle.fold.specs.Inside.Blocks.{Listed, blockAt, Level}
-use Rattle.fold.proofs.ListLaws.{both-true, gap}
+use Rattle.whole.proofs.Bools.{both-true}
+use Rattle.fold.proofs.ListLaws.{gap}
 
 pub which : (b : Bool) → (b ≡ true) ⊎ (b ≡ false)
 which true = inl refl

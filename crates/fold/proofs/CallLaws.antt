@@ -17,7 +17,7 @@ use Rattle.fold.specs.Folds.{has, allBelow, ascending, foldOf, foldCall}
 use Rattle.fold.specs.Unfolds.{shallow, inside, apart, ordered, unfoldOf, unfoldCall}
 use Rattle.fold.specs.Foldings.{Lone}
 use Rattle.fold.specs.Inside.Pairs.{Laid}
-use Rattle.fold.proofs.ListLaws.{both-true}
+use Rattle.whole.proofs.Bools.{both-true}
 use Rattle.fold.proofs.PairLaws.{length-pairs, cells-of-pairs, pairs-of-cells}
 use Rattle.fold.proofs.PairTestLaws.{laid-shallow, laid-inside, laid-apart, laid-finer, ordered-laid}
 use Rattle.fold.proofs.GivenBack.{unfold-fold, fold-empty, fold-laid}

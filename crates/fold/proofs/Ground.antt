@@ -12,7 +12,8 @@ use borrow.Author.Tests.{ltb-true, ne-eqb}
 use Rattle.whole.proofs.Digits.{four-power}
 use Rattle.fold.specs.Cells.{Cell, cell, Covered}
 use Rattle.fold.specs.Folds.{has, allBelow, whole, foldOf}
-use Rattle.fold.proofs.ListLaws.{both-true, has-at, has-all}
+use Rattle.whole.proofs.Bools.{both-true}
+use Rattle.fold.proofs.ListLaws.{has-at, has-all}
 use Rattle.fold.proofs.Induction.{Loose, fold-all}
 
 pub covered-left : (r s : ℕ) (a b : List Cell) → Covered r a s → Covered r (a ++ b) s

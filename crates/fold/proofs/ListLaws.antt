@@ -12,12 +12,9 @@ use lib.ListN.{length, getD, drop, length-drop, drop-of-length-le}
 use lib.Pow.{pow-mono}
 use lib.Seq.{drop-cons}
 use borrow.Author.Tests.{lt-ltb, le-ltb, eq-eqb, ne-eqb, ltb-true, not-false}
+use Rattle.whole.proofs.Bools.{both-true}
 use Rattle.whole.proofs.Powers.{four-by-shift}
 use Rattle.fold.specs.Folds.{has, hasAll, allBelow, ascending}
-
-pub both-true : (a b : Bool) → (a && b) ≡ true → (a ≡ true) × (b ≡ true)
-both-true true b e = (refl, e)
-both-true false b e = absurd (false≢true e)
 
 -- ---- the tests, entry by entry: the rest of the list tells what the whole list tells
 module _ (n : ℕ) (xs : List ℕ) (i : ℕ) (rest : allBelow n (drop i xs) ≡ allBelow n xs) where

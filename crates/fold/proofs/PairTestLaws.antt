@@ -18,7 +18,7 @@ use Rattle.fold.specs.declared.pairs.Seen.{Seen}
 use Rattle.fold.specs.Cells.{Cell, cell, cellsIn}
 use Rattle.fold.specs.Unfolds.{shallow, inside, apart, ordered, passes}
 use Rattle.fold.specs.Inside.Pairs.{seenPair, Laid}
-use Rattle.fold.proofs.ListLaws.{both-true}
+use Rattle.whole.proofs.Bools.{both-true}
 use Rattle.fold.proofs.PairLaws.{cells-next, cells-none}
 
 -- ---- what passes them, and what they say of it

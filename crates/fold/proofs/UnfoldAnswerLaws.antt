@@ -15,7 +15,7 @@ use Rattle.triple.proofs.LentLaws.{count-short, count-whole}
 use Rattle.fold.specs.Cells.{Cell, cellsIn}
 use Rattle.fold.specs.Unfolds.{shallow, inside, ordered, passes, unfoldCall}
 use Rattle.fold.specs.Inside.Pairs.{Tested}
-use Rattle.fold.proofs.ListLaws.{both-true}
+use Rattle.whole.proofs.Bools.{both-true}
 use Rattle.fold.proofs.PairTestLaws.{ordered-laid}
 use Rattle.fold.proofs.FoldAnswerLaws.{refused-count, refused-left}
 use Rattle.fold.proofs.UnfoldLaws.{positionsOf}

@@ -20,7 +20,7 @@ use Rattle.triple.specs.declared.refusal.Refusal.the-variants as Is
 use Rattle.triple.specs.Refusals.{Told, told, refused, refuse, numberOf, _>>=_}
 use Rattle.triple.specs.Triples.{sumOf, goodSum, bounds, inBounds}
 use Rattle.triple.specs.Lent.{countOf, afterCall}
-use Rattle.triple.proofs.RefusalLaws.{never, passed}
+use Rattle.triple.proofs.RefusalLaws.{never, passed, told-same, stepped}
 use Rattle.triple.proofs.LentLaws.{wrote}
 use Rattle.triple.proofs.TripleLaws.{v-row}
 use Rattle.text.specs.Digits.{digitOf}
@@ -34,7 +34,7 @@ use Rattle.turtle.proofs.CornerLaws.{triple-is, narrow-true}
 use Rattle.polygon.specs.Polygons.{opening, comma, closing, evenFrom, oddFrom, cellCorners, cornerText, ringText, polygonText, wktOf, readable, cornerAt, parityFrom, startingAt, narrow, sameText, spelledCell, cellOfWkt}
 use Rattle.polygon.specs.Inside.Sizes.{Short, TenDigits}
 use Rattle.polygon.proofs.CornerLaws.{sum-cases, even-corners, odd-corners, Digits, corners-digits}
-use Rattle.polygon.proofs.ReadLaws.{told-same, stepped, level, not-level, parity-most, start-good, narrow-told}
+use Rattle.polygon.proofs.ReadLaws.{level, not-level, parity-most, start-good, narrow-told}
 
 -- ---- a corner's text is read back
 -- what stands behind a text

@@ -26,7 +26,7 @@ use Rattle.triple.specs.declared.refusal.Refusal.the-variants as Is
 use Rattle.triple.specs.Refusals.{Told, told, refused, refuse, numberOf, _>>=_}
 use Rattle.triple.specs.Triples.{sumOf, goodSum, inBounds}
 use Rattle.triple.specs.Domain.{greatestResolution}
-use Rattle.triple.proofs.RefusalLaws.{never, passed}
+use Rattle.triple.proofs.RefusalLaws.{never, passed, told-same, stepped}
 use Rattle.text.specs.Decimals.{integer, decimalAt}
 use Rattle.text.specs.Puts.{Put}
 use Rattle.text.specs.declared.place.Placed.{Placed}
@@ -43,14 +43,6 @@ use Rattle.polygon.specs.declared.reading.Spelled.{Spelled}
 use Rattle.polygon.specs.Polygons.{polygonText, readable, cornerAt, parityFrom, startingAt, narrow, sameText, spelledCell, cellOfWkt}
 use Rattle.polygon.specs.Inside.Reading.{saidCorner, saidSpelled}
 use Rattle.polygon.proofs.SpellLaws.{spelled-most, spelled-is}
-
-pub told-same : {A : Type 0} {a b : A} → told a ≡ told b → a ≡ b
-told-same e = cc
-
--- what is told by steps is told by each of them
-pub stepped : {A B : Type 0} {f : A → Told B} (t : Told A) {b : B} → (t >>= f) ≡ told b → (a : A) × (t ≡ told a) × (f a ≡ told b)
-stepped (told a) e = (a, refl, e)
-stepped (refused n) e = never e
 
 -- ---- a corner at a place
 integer-some : (z : ℤ) → 1 ≤ length (integer z)

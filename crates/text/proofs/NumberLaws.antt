@@ -18,6 +18,7 @@ use lib.Ieee.{Float, binary64, ofBits}
 use mir.Syntax.{w8, w32, w64}
 use mir.Val.{Fits, SFits, toZ, ofZ}
 use mir.ValLaws.{toZ-pos, toZ-ofZ}
+use Rattle.whole.proofs.Bools.{both-true}
 use Rattle.whole.proofs.View.{view, v-upto, v-unsigned, fits, eq-by}
 use Rattle.text.specs.Digits.{digitOf, allDigits, valueAfter}
 use Rattle.text.specs.Decimals.{isDecimal, upTo, plain, negated, signed}
@@ -152,10 +153,6 @@ pub ruleset decimal-laws = (empty-decimal, one-digit, leading-zero, more-digits)
 pub through : {A : Type 0} (t : Bool) (v n : A) → cond t (some v) none ≡ some n → (t ≡ true) × (v ≡ n)
 through true v n p = (refl, cc)
 through false v n p = let z : _≡_ {A = ℕ} 0 1 = cc in absurd (omega arith)
-
-pub both-true : (a b : Bool) → (a && b) ≡ true → (a ≡ true) × (b ≡ true)
-both-true true b e = (refl, e)
-both-true false b e = let z : _≡_ {A = ℕ} 0 1 = cc in absurd (omega arith)
 
 up-to-most : (most n : ℕ) (w : List ℕ) → upTo most w ≡ some n → n ≤ most
 unfolding upTo

@@ -16,12 +16,13 @@ use lib.IntN.{ℤ, pos, negsuc}
 use lib.Signed.{mag}
 use lib.ListN.{length, getD, take, drop, length-append, take-append-drop, List·getD-append}
 use lib.Seq.{take-at, drop-drop, length-take-le}
+use Rattle.whole.proofs.Bools.{both-true}
 use Rattle.whole.proofs.Lists.{firsts-agree}
 use Rattle.text.specs.Digits.{digitOf, digitByte, allDigits, valueAfter}
 use Rattle.text.specs.Decimals.{isDecimal, upTo, plain, negated, signed, i64, digitCount, decimalLength, withPlace, decimalAt, natural, integer}
 use Rattle.text.specs.Patterns.{f64, hexDigits, pattern}
 use Rattle.text.proofs.DecimalLaws.{natural-one, natural-more, length-more, some-digit}
-use Rattle.text.proofs.NumberLaws.{both-true, through, signed-plain}
+use Rattle.text.proofs.NumberLaws.{through, signed-plain}
 use Rattle.text.proofs.PlaceLaws.{length-plain, decimal-length-most}
 use Rattle.text.proofs.DigitLaws.{hex-length}
 

@@ -13,7 +13,7 @@ use borrow.Author.Tests.{lt-ltb, le-ltb, ltb-true, ltb-false}
 use Rattle.triple.specs.declared.refusal.Refusal.the-variants.{Room}
 use Rattle.triple.specs.Refusals.{Told, told, refused, numberOf, refuse}
 use Rattle.triple.specs.Lent.{valued, countOf, statusOf, afterCall, Counted, Called, firstOf, secondOf, CalledBoth, counting}
-use Rattle.triple.proofs.RefusalLaws.{never}
+use Rattle.triple.proofs.RefusalLaws.{never, refused-same}
 
 -- ---- one slice
 module _ {A : Type 0} (values slice : List A) where
@@ -166,16 +166,13 @@ module _ {A B C : Type 0} (values : A → List B × List C) (first : List B) (se
   both-refused f = none-written first second (ap (valued values) (sym answers ∙ f))
 
 -- a call's answer, by its count
-number-same : {A : Type 0} {m n : ℕ} → _≡_ {A = Told A} (refused m) (refused n) → n ≡ m
-number-same e = cc
-
 valued-told : {A B : Type 0} (f : A → B) (t : Told A) {b : B} → told b ≡ valued f t → (a : A) × (t ≡ told a) × (b ≡ f a)
 valued-told f (told a) e = (a, refl, cc)
 valued-told f (refused n) e = never (sym e)
 
-valued-refused : {A B : Type 0} (f : A → B) (t : Told A) {n : ℕ} → refused n ≡ valued f t → t ≡ refused n
+pub valued-refused : {A B : Type 0} (f : A → B) (t : Told A) {n : ℕ} → refused n ≡ valued f t → t ≡ refused n
 valued-refused f (told a) e = never e
-valued-refused f (refused m) e = ap refused (number-same e)
+valued-refused f (refused m) e = ap refused (sym (refused-same e))
 
 pub valued-same : {A : Type 0} (t : Told A) → t ≡ valued (λ a. a) t
 valued-same (told a) = refl
@@ -242,7 +239,7 @@ module _ {A : Type 0} (slice : List A) (out : List ℕ) {n : ℕ} (within : n �
             rw kept (whole call r)
           where
             whole : (call : Told (List A)) → countOf call (take n slice) ≡ refused e → CalledBoth (counting f call) slice out status slice out
-            whole (refused m) r = none-written slice out {call = refused m} refl (p ∙ number-same r)
+            whole (refused m) r = none-written slice out {call = refused m} refl (p ∙ sym (refused-same r))
             whole (told values) r =
                 let b = counted-refused values (take n slice) (sym r) in
                 ⊎-elim (λ z. second-short slice out {values = values} {others = f (length values) ∷ []} refl (omega arith) (p ∙ b .1))

@@ -1,6 +1,6 @@
 -- Flags: what two of them say together, and the flag that a call returns from what it is to say.
 use mathlib.Core.Path.{_≡_, refl, sym, subst}
-use mathlib.Core.Bool.{Bool, true, false, _&&_}
+use mathlib.Core.Bool.{Bool, true, false, _&&_, false≢true}
 use lib.Dec.{T}
 
 pub both-left : (a b : Bool) → T (a && b) → T a
@@ -14,6 +14,10 @@ both-right false b t = absurd t
 pub both : (a b : Bool) → T a → T b → T (a && b)
 both true b s t = t
 both false b s t = absurd s
+
+pub both-true : (a b : Bool) → (a && b) ≡ true → (a ≡ true) × (b ≡ true)
+both-true true b e = (refl, e)
+both-true false b e = absurd (false≢true e)
 
 pub is-true : (b : Bool) → T b → true ≡ b
 is-true true h = refl
