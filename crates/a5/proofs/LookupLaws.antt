@@ -1,60 +1,64 @@
--- The lookup by A5's table finds the position of every triple in bounds, and every separator value on its way is a multiple of 48 and not 0: level by level it is
--- the lookup of the triple's spot.
-use mathlib.Core.Path.{_≡_, sym, ap, _∙_, subst}
+-- The lookup by A5's table finds the place of every triple in bounds by one pick a level and one comparison more than its last digit, and at every pick every
+-- separator's value is a multiple of 48 and not 0: level by level it is the lookup of the triple's spot, whatever the bits' threshold is from -47 to 48.
+use mathlib.Core.Path.{_≡_, refl, sym, ap, _∙_, subst}
 use mathlib.Core.Bool.{true}
 use mathlib.Core.List.{List, [], _∷_}
-use Prim.Native.Nat.{ℕ, zero, suc, _+_, _*_, _^_, _<_}
+use Prim.Native.Nat.{ℕ, zero, suc, _+_, _*_, _%_, _^_, _<_}
 use native.Mathlib.Omega.{arith}
+use native.Mathlib.Nat as N
 use lib.Dec.{T}
-use lib.IntN.{pos}
-use Rattle.whole.proofs.Digits.{two-power, twice-power}
+use lib.IntN.{ℤ}
+use Rattle.whole.proofs.Digits.{two-power, twice-power, four-times-power}
 use Rattle.whole.proofs.Claims.{Claim, eq, below, all, each}
 use Rattle.triple.specs.declared.Triple.{Triple}
-use Rattle.triple.specs.Triples.{inBounds, closedFlavor}
+use Rattle.triple.specs.Triples.{inBounds}
 use Rattle.turtle.specs.declared.AB.{AB}
 use Rattle.turtle.specs.Plane.{origin, _⊕_, thrice, doubled}
 use Rattle.turtle.specs.Corners.{cornerSum}
 use Rattle.turtle.proofs.PlaneLaws.{⊕-idl, thrice-origin}
 use Rattle.tables.specs.Descent.{entry, offsetAt, sumAt, follow}
 use Rattle.a5.specs.A5Table.{a5Table}
-use Rattle.a5.specs.Lookup.{_⊖_, childState, separatorValue, chosen, matching, seek}
-use Rattle.a5.specs.Inside.Spots.{Spot, In, parity, spotAt}
+use Rattle.a5.specs.Lookup.{_⊖_, childState, separatorValue, chosen, Looks, onePicked, compared, lookup, AtPicks}
+use Rattle.a5.specs.Inside.Spots.{Spot, In, parity, spotAt, walk}
 use Rattle.a5.proofs.Finds.{back, coarse, pick, leafOf, find}
-use Rattle.a5.proofs.Places.{base, spotSum, place, leaf-sum, place-step}
+use Rattle.a5.proofs.Places.{base, spotSum, place, leaf-sum, place-step, follow-sum}
 use Rattle.a5.proofs.Axioms.{⊖-left, ⊖-right, Axiom, first, shift, shape, axiom-in, corner-spot}
 use Rattle.a5.proofs.FootprintChecks.{down, pick-in}
-use Rattle.a5.proofs.FootprintLaws.{parity-is, coarse-ends, coarse-triangle, back-in, moved-back, leaf-found}
-use Rattle.a5.proofs.Once.{sumAfter, cellTriple, position, cell-bounds, cell-sum, cell-flavor, position-small, cell-position, position-cell}
-use Rattle.a5.proofs.Separators.{Clear, chosen-pick, value-clear}
+use Rattle.a5.proofs.FootprintLaws.{parity-is, coarse-ends, coarse-triangle, back-in, moved-back, leaf-found, walk-in}
+use Rattle.a5.proofs.Once.{position}
+use Rattle.a5.proofs.Separators.{Safe, Clear, chosen-pick, value-clear}
 
--- at every level of the lookup every separator's value is clear
-unfoldable pub Clean : ℕ → ℕ → AB → AB → Type 0
-Clean zero k v p = Unit {0}
-Clean (suc n) k v p =
-    ((i : ℕ) → i < 3 → Clear (separatorValue n k i (p ⊖ thrice v)))
-    × Clean n (childState k (chosen n k (p ⊖ thrice v))) (v ⊕ doubled n (offsetAt a5Table k (chosen n k (p ⊖ thrice v)))) p
+-- n picks, and one comparison more than the last digit of s
+abbrev pub looksAt : ℕ → ℕ → Looks
+looksAt n s = record { place = s; picks = n; comparisons = s % 4 + 1 }
 
 -- ---- the leaf
-abbrev Matched : ℕ → ℕ → List Claim
-Matched k d = eq (matching k (sumAt a5Table k d)) d ∷ []
+abbrev Compared : ℕ → ℕ → List Claim
+Compared k d =
+    let l = compared 4 k 0 (sumAt a5Table k d) in
+    eq (l .place) d ∷ eq (l .picks) 0 ∷ eq (l .comparisons) (d % 4 + 1) ∷ []
 
-matched-all : T (all 28 4 Matched)
-unfolding all below matching entry a5Table
-matched-all = tt
+compared-all : T (all 28 4 Compared)
+unfolding all below compared entry a5Table
+compared-all = tt
 
-pub leaf-matched : (k : ℕ) (p : Spot) → k < 28 → In (2 ^ 0) k p → (leafOf k p < 4) × (matching k (place 0 k p) ≡ leafOf k p)
+looks-are : {l m : Looks} → l .place ≡ m .place → l .picks ≡ m .picks → l .comparisons ≡ m .comparisons → l ≡ m
+looks-are a b c = λ i. record { place = a i; picks = b i; comparisons = c i }
+
+leaf-compared : (k : ℕ) (p : Spot) → k < 28 → In (2 ^ 0) k p → compared 4 k 0 (place 0 k p) ≡ looksAt 0 (leafOf k p)
 unfolding place doubled
-leaf-matched k p h i =
+leaf-compared k p h i =
     let t = leaf-found k p h i in
     let d = leafOf k p in
-    (t .0, ap (matching k) (ap (λ q. spotSum q ⊕ base k) (t .1) ∙ sym (leaf-sum k d h (t .0))) ∙ each 28 4 Matched matched-all k d h (t .0) .0)
+    let c = each 28 4 Compared compared-all k d h (t .0) in
+    ap (compared 4 k 0) (ap (λ q. spotSum q ⊕ base k) (t .1) ∙ sym (leaf-sum k d h (t .0))) ∙ looks-are (c .0) (c .1 .0) (c .1 .1 .0)
 
 -- ---- a level above: what is known of a spot of the footprint
 pub record Level (n k : ℕ) (p : Spot) : Type 0 where
   pub small : pick k (coarse (2 ^ n) p) < 4
   pub state : childState k (pick k (coarse (2 ^ n) p)) < 28
   pub inner : In (2 ^ n) (childState k (pick k (coarse (2 ^ n) p))) (back (2 ^ n) k (pick k (coarse (2 ^ n) p)) p)
-  pub choose : chosen n k (place (suc n) k p) ≡ pick k (coarse (2 ^ n) p)
+  pub choose : (h : ℤ) → Safe h → chosen h n k (place (suc n) k p) ≡ pick k (coarse (2 ^ n) p)
   pub clear : (i : ℕ) → i < 3 → Clear (separatorValue n k i (place (suc n) k p))
   pub next : (v : AB) → thrice v ⊕ place (suc n) k p
       ≡ thrice (v ⊕ doubled n (offsetAt a5Table k (pick k (coarse (2 ^ n) p)))) ⊕ place n (childState k (pick k (coarse (2 ^ n) p))) (back (2 ^ n) k (pick k (coarse (2 ^ n) p)) p)
@@ -77,50 +81,73 @@ level n k p h i =
     }
 
 -- ---- all levels
-pub seek-find : (n k : ℕ) (v : AB) (p : Spot) → k < 28 → In (2 ^ n) k p → seek n k v (thrice v ⊕ place n k p) ≡ find n k p
-unfolding seek find
-seek-find zero k v p h i = ap (matching k) (⊖-left (thrice v) (place 0 k p)) ∙ leaf-matched k p h i .1
-seek-find (suc n) k v p h i =
-    let a = level n k p h i in
-    let d = pick k (coarse (2 ^ n) p) in
-    rw (⊖-left (thrice v) (place (suc n) k p), a .choose, a .next v)
-    (ap (λ m. d * 4 ^ suc n + m) (seek-find n (childState k d) (v ⊕ doubled n (offsetAt a5Table k d)) (back (2 ^ n) k d p) (a .state) (a .inner)))
+last-digit : (n d m : ℕ) → (d * 4 ^ suc n + m) % 4 ≡ m % 4
+last-digit n d m = rw (four-times-power n, N.mul-left-comm d 4 (4 ^ n)) (omega arith)
 
-pub seek-clean : (n k : ℕ) (v : AB) (p : Spot) → k < 28 → In (2 ^ n) k p → Clean n k v (thrice v ⊕ place n k p)
-unfolding Clean
-seek-clean zero k v p h i = tt
-seek-clean (suc n) k v p h i =
-    let a = level n k p h i in
-    let d = pick k (coarse (2 ^ n) p) in
-    rw (⊖-left (thrice v) (place (suc n) k p), a .choose)
-    (a .clear, rw (a .next v) (seek-clean n (childState k d) (v ⊕ doubled n (offsetAt a5Table k d)) (back (2 ^ n) k d p) (a .state) (a .inner)))
+module _ (f : ℤ) (j : Safe f) where
+  lookup-find : (n k : ℕ) (v : AB) (p : Spot) → k < 28 → In (2 ^ n) k p → lookup f n k v (thrice v ⊕ place n k p) ≡ looksAt n (find n k p)
+  unfolding lookup find
+  lookup-find zero k v p h i = ap (compared 4 k 0) (⊖-left (thrice v) (place 0 k p)) ∙ leaf-compared k p h i
+  lookup-find (suc n) k v p h i =
+      let a = level n k p h i in
+      let d = pick k (coarse (2 ^ n) p) in
+      let m = find n (childState k d) (back (2 ^ n) k d p) in
+      rw (⊖-left (thrice v) (place (suc n) k p), a .choose f j, a .next v)
+      (ap (onePicked (d * 4 ^ suc n)) (lookup-find n (childState k d) (v ⊕ doubled n (offsetAt a5Table k d)) (back (2 ^ n) k d p) (a .state) (a .inner))
+      ∙ looks-are refl (omega arith) (ap (λ c. c + 1) (sym (last-digit n d m))))
+
+  -- what holds of each spot of each footprint holds at each pick
+  at-picks : (Holds : ℕ → ℕ → AB → Type 0) → ((n k : ℕ) (p : Spot) → k < 28 → In (2 ^ suc n) k p → Holds n k (place (suc n) k p))
+      → (n k : ℕ) (v : AB) (p : Spot) → k < 28 → In (2 ^ n) k p → AtPicks Holds f n k v (thrice v ⊕ place n k p)
+  unfolding AtPicks
+  at-picks Holds all zero k v p h i = tt
+  at-picks Holds all (suc n) k v p h i =
+      let a = level n k p h i in
+      let d = pick k (coarse (2 ^ n) p) in
+      rw (⊖-left (thrice v) (place (suc n) k p), a .choose f j)
+      (all n k p h i, rw (a .next v) (at-picks Holds all n (childState k d) (v ⊕ doubled n (offsetAt a5Table k d)) (back (2 ^ n) k d p) (a .state) (a .inner)))
+
+-- what follows from it holds at each pick too
+pub picks-map : {P Q : ℕ → ℕ → AB → Type 0} → ((n k : ℕ) (p : AB) → P n k p → Q n k p) → (f : ℤ) (n k : ℕ) (v p : AB) → AtPicks P f n k v p → AtPicks Q f n k v p
+unfolding AtPicks
+picks-map g f zero k v p a = tt
+picks-map g f (suc n) k v p a = (g n k (p ⊖ thrice v) (a .0), picks-map g f n _ _ p (a .1))
+
+-- ---- what holds at a pick
+-- every separator's value is clear of 0
+abbrev pub ClearPick : ℕ → ℕ → AB → Type 0
+ClearPick n k p = (i : ℕ) → i < 3 → Clear (separatorValue n k i p)
+
+-- every safe threshold picks the same child
+abbrev pub SamePick : ℕ → ℕ → AB → Type 0
+SamePick n k p = (f g : ℤ) → Safe f → Safe g → chosen f n k p ≡ chosen g n k p
+
+clear-pick : (n k : ℕ) (p : Spot) → k < 28 → In (2 ^ suc n) k p → ClearPick n k (place (suc n) k p)
+clear-pick n k p h i = level n k p h i .clear
+
+same-pick : (n k : ℕ) (p : Spot) → k < 28 → In (2 ^ suc n) k p → SamePick n k (place (suc n) k p)
+same-pick n k p h i = let a = level n k p h i in λ f g j l. a .choose f j ∙ sym (a .choose g l)
+
+-- of each state: at every cell of its own curve
+pub state-clear : (n k s : ℕ) → k < 28 → ClearPick n k (follow a5Table (suc n) origin k s .sum)
+state-clear n k s h =
+    subst (ClearPick n k) (sym (follow-sum (suc n) origin k s h ∙ ap (λ v. v ⊕ place (suc n) k (walk (suc n) k s)) thrice-origin ∙ ⊕-idl _)) (clear-pick n k (walk (suc n) k s) h (walk-in (suc n) k s h))
 
 -- ---- THE CLAIM, of a triple in bounds
-module _ (x : Axiom) (n : ℕ) where
-  module _ (t : Triple) (b : inBounds (suc n) t ≡ true) where
-    pub target : cornerSum t ⊖ shift x (suc n) ≡ thrice origin ⊕ place n (first x) (spotAt n t)
-    target = ap (λ u. u ⊖ shift x (suc n)) (corner-spot x n t b) ∙ ⊖-right _ _ ∙ sym (ap (λ v. v ⊕ place n (first x) (spotAt n t)) thrice-origin ∙ ⊕-idl _)
+module _ (x : Axiom) (n : ℕ) (t : Triple) (b : inBounds (suc n) t ≡ true) where
+  target : cornerSum t ⊖ shift x (suc n) ≡ thrice origin ⊕ place n (first x) (spotAt n t)
+  target = ap (λ u. u ⊖ shift x (suc n)) (corner-spot x n t b) ∙ ⊖-right _ _ ∙ sym (ap (λ v. v ⊕ place n (first x) (spotAt n t)) thrice-origin ∙ ⊕-idl _)
 
-    pub seek-position : seek n (first x) origin (cornerSum t ⊖ shift x (suc n)) ≡ position x n t
+  module _ (f : ℤ) (j : Safe f) where
+    pub lookup-position : lookup f n (first x) origin (cornerSum t ⊖ shift x (suc n)) ≡ looksAt n (position x n t)
     unfolding position
-    seek-position = ap (seek n (first x) origin) target ∙ seek-find n (first x) origin (spotAt n t) (shape x .is-state) (axiom-in x n t b)
+    lookup-position = ap (lookup f n (first x) origin) target ∙ lookup-find f j n (first x) origin (spotAt n t) (shape x .is-state) (axiom-in x n t b)
 
-    pub seek-small : seek n (first x) origin (cornerSum t ⊖ shift x (suc n)) < 4 ^ suc n
-    seek-small = rw seek-position (position-small x n t b)
+    pub lookup-picks : (Holds : ℕ → ℕ → AB → Type 0) → ((n k : ℕ) (p : Spot) → k < 28 → In (2 ^ suc n) k p → Holds n k (place (suc n) k p)) → AtPicks Holds f n (first x) origin (cornerSum t ⊖ shift x (suc n))
+    lookup-picks Holds all = subst (AtPicks Holds f n (first x) origin) (sym target) (at-picks f j Holds all n (first x) origin (spotAt n t) (shape x .is-state) (axiom-in x n t b))
 
-    -- where its cell is, with its flavor
-    pub seek-sum : cornerSum t ≡ sumAfter x n (seek n (first x) origin (cornerSum t ⊖ shift x (suc n)))
-    seek-sum = rw seek-position (ap cornerSum (sym (cell-position x n t b)) ∙ cell-sum x n (position x n t))
+    pub lookup-clear : AtPicks ClearPick f n (first x) origin (cornerSum t ⊖ shift x (suc n))
+    lookup-clear = lookup-picks ClearPick clear-pick
 
-    pub seek-flavor : follow a5Table n origin (first x) (seek n (first x) origin (cornerSum t ⊖ shift x (suc n))) .flavor ≡ pos (closedFlavor (suc n) t)
-    seek-flavor = rw seek-position (cell-flavor x n (position x n t) ∙ ap (λ u. pos (closedFlavor (suc n) u)) (cell-position x n t b))
-
-    pub lookup-clean : Clean n (first x) origin (cornerSum t ⊖ shift x (suc n))
-    lookup-clean = subst (Clean n (first x) origin) (sym target) (seek-clean n (first x) origin (spotAt n t) (shape x .is-state) (axiom-in x n t b))
-
-  -- the lookup of the cell s finds s
-  pub seek-cell : (s : ℕ) → s < 4 ^ suc n → seek n (first x) origin (cornerSum (cellTriple x n s) ⊖ shift x (suc n)) ≡ s
-  seek-cell s l = seek-position (cellTriple x n s) (cell-bounds x n s) ∙ position-cell x n s l
-
-  pub seek-descent : (s : ℕ) → s < 4 ^ suc n → seek n (first x) origin (follow a5Table n origin (first x) s .sum) ≡ s
-  seek-descent s l = ap (seek n (first x) origin) (sym (ap (λ p. p ⊖ shift x (suc n)) (cell-sum x n s) ∙ ⊖-right _ _)) ∙ seek-cell s l
+    pub lookup-same : AtPicks SamePick f n (first x) origin (cornerSum t ⊖ shift x (suc n))
+    lookup-same = lookup-picks SamePick same-pick

@@ -1,5 +1,6 @@
 -- A separator's value at a cell is 48 times its slope times how far, in thirds, the cell is from the threshold: so it is a multiple of 48, never 0, and its
--- sign says on which side of the threshold the cell's triangle lies. The child that the table chooses is the one that has the cell.
+-- sign says on which side of the threshold the cell's triangle lies. The child that the table chooses is the one that has the cell, whatever the bits' own
+-- threshold is from -47 to 48.
 use mathlib.Core.Path.{_≡_, refl, sym, ap, _∙_}
 use mathlib.Core.Bool.{Bool, false, cond}
 use mathlib.Core.List.{List, [], _∷_}
@@ -7,11 +8,12 @@ use Prim.Native.Nat.{ℕ, zero, suc, _+_, _-_, _*_, _/_, _^_, _<_, _≤_}
 use native.Mathlib.Omega.{arith}
 use native.Mathlib.Nat as N
 use native.Mathlib.Decide.{decLt}
-use borrow.Author.Tests.{lt-ltb, le-ltb, lt-leb}
+use borrow.Author.Tests.{lt-ltb, le-ltb}
 use lib.Dec.{T, eqb, eqb→eq}
 use lib.IntN.{ℤ, pos, negsuc, _+ℤ_, _-ℤ_, _*ℤ_, +ℤ-idl, +ℤ-idr, zero-*ℤ}
-use lib.Signed.{leZ}
-use Rattle.whole.proofs.Parts.{up, dn, up-pos, dn-pos, mul-up, mul-dn, neg-up, neg-dn, negsuc-mul}
+use lib.Signed.{leZ, _≤ℤ_}
+use Rattle.whole.proofs.Bools.{is-true, is-false}
+use Rattle.whole.proofs.Parts.{up, dn, up-pos, dn-pos, up-negsuc, dn-negsuc, up-dn, parts-le, le-parts, mul-up, mul-dn, neg-up, neg-dn, negsuc-mul}
 use Rattle.whole.proofs.View.{view, v-pos, v-add, v-neg, parts-of, eq-by}
 use Rattle.whole.proofs.Ring.{*ℤ-assoc, *ℤ-left-comm, *ℤ-distrib-l}
 use Rattle.whole.proofs.Digits.{two-power, twice-power}
@@ -154,22 +156,28 @@ module _ (n axis t : ℕ) (p : Spot) (q : ℕ) (s : q ≤ 1) (z : 0 < n) where
       let l : t * n ≤ seen axis p = N.le-div-iff-mul-le z .0 (rw (seen-coarse axis n p) at h) in
       omega (arith, gap-parts .0, rest-is axis q s)
 
--- the bit of a value of 48 z
-above : (v : ℤ) → 0 < up v → bit (leZ (negsuc 0) v) ≡ 1
-unfolding up
-above (pos a) h = refl
-above (negsuc a) h = let z : ⊥ = omega arith in absurd z
+-- the bit of a value of 48 z, by a threshold that no such value but 0 lies beyond
+pub record Safe (threshold : ℤ) : Type 0 where
+  pub low : negsuc 46 ≤ℤ threshold
+  pub high : threshold ≤ℤ pos 48
 
-under : (v : ℤ) → 1 < dn v → bit (leZ (negsuc 0) v) ≡ 0
-unfolding dn
-under (pos a) h = let z : ⊥ = omega arith in absurd z
-under (negsuc a) h = ap bit (lt-leb a 0 (omega arith))
+module _ (h : ℤ) (s : Safe h) where
+  above : (v : ℤ) → 48 ≤ up v → bit (leZ h v) ≡ 1
+  above v l =
+      let top = parts-le (s .high) in
+      let z : h ≤ℤ v = le-parts h v (omega (arith, top, up-dn v, up-pos 48, dn-pos 48)) in
+      ap bit (sym (is-true (leZ h v) (z .le)))
 
-bit-above : (z : ℤ) → 0 < up z → bit (leZ (negsuc 0) (pos 48 *ℤ z)) ≡ 1
-bit-above z h = above (pos 48 *ℤ z) (omega (arith, mul-up 48 z))
+  under : (v : ℤ) → 48 ≤ dn v → bit (leZ h v) ≡ 0
+  under v l =
+      let bottom = parts-le (s .low) in
+      ap bit (sym (is-false (leZ h v) (λ t. let z = parts-le {x = h} {y = v} (record { le = t }) in omega (arith, bottom, up-dn v, up-negsuc 46, dn-negsuc 46))))
 
-bit-under : (z : ℤ) → 0 < dn z → bit (leZ (negsuc 0) (pos 48 *ℤ z)) ≡ 0
-bit-under z h = under (pos 48 *ℤ z) (omega (arith, mul-dn 48 z))
+  bit-above : (z : ℤ) → 0 < up z → bit (leZ h (pos 48 *ℤ z)) ≡ 1
+  bit-above z l = above (pos 48 *ℤ z) (omega (arith, mul-up 48 z))
+
+  bit-under : (z : ℤ) → 0 < dn z → bit (leZ h (pos 48 *ℤ z)) ≡ 0
+  bit-under z l = under (pos 48 *ℤ z) (omega (arith, mul-dn 48 z))
 
 -- the parts of a slope times w
 module _ (c : ℕ) (w : ℤ) where
@@ -189,17 +197,17 @@ module _ (c : ℕ) (w : ℤ) where
   fall-down h = rw (negsuc-mul c w, neg-dn) (rise-up h)
 
 module _ (w : ℤ) where
-  bit-low : (m : ℤ) (u : ℕ) → T (slopeTest m u) → 0 < dn w → bit (leZ (negsuc 0) (pos 48 *ℤ (m *ℤ w))) ≡ 1 - u
+  bit-low : (h : ℤ) → Safe h → (m : ℤ) (u : ℕ) → T (slopeTest m u) → 0 < dn w → bit (leZ h (pos 48 *ℤ (m *ℤ w))) ≡ 1 - u
   unfolding slopeTest
-  bit-low (pos zero) u t h = absurd t
-  bit-low (pos (suc c)) u t h = bit-under (pos (suc c) *ℤ w) (rise-down c w h) ∙ omega (arith, eqb→eq u 1 t)
-  bit-low (negsuc c) u t h = bit-above (negsuc c *ℤ w) (fall-up c w h) ∙ omega (arith, eqb→eq u 0 t)
+  bit-low h s (pos zero) u t l = absurd t
+  bit-low h s (pos (suc c)) u t l = bit-under h s (pos (suc c) *ℤ w) (rise-down c w l) ∙ omega (arith, eqb→eq u 1 t)
+  bit-low h s (negsuc c) u t l = bit-above h s (negsuc c *ℤ w) (fall-up c w l) ∙ omega (arith, eqb→eq u 0 t)
 
-  bit-high : (m : ℤ) (u : ℕ) → T (slopeTest m u) → 0 < up w → bit (leZ (negsuc 0) (pos 48 *ℤ (m *ℤ w))) ≡ u
+  bit-high : (h : ℤ) → Safe h → (m : ℤ) (u : ℕ) → T (slopeTest m u) → 0 < up w → bit (leZ h (pos 48 *ℤ (m *ℤ w))) ≡ u
   unfolding slopeTest
-  bit-high (pos zero) u t h = absurd t
-  bit-high (pos (suc c)) u t h = bit-above (pos (suc c) *ℤ w) (rise-up c w h) ∙ omega (arith, eqb→eq u 1 t)
-  bit-high (negsuc c) u t h = bit-under (negsuc c *ℤ w) (fall-down c w h) ∙ omega (arith, eqb→eq u 0 t)
+  bit-high h s (pos zero) u t l = absurd t
+  bit-high h s (pos (suc c)) u t l = bit-above h s (pos (suc c) *ℤ w) (rise-up c w l) ∙ omega (arith, eqb→eq u 1 t)
+  bit-high h s (negsuc c) u t l = bit-under h s (negsuc c *ℤ w) (fall-down c w l) ∙ omega (arith, eqb→eq u 0 t)
 
   product-some : (m : ℤ) (u : ℕ) → T (slopeTest m u) → 0 < up w + dn w → 0 < up (m *ℤ w) + dn (m *ℤ w)
   unfolding slopeTest
@@ -220,24 +228,25 @@ not-zero v z h e f =
 
 -- ---- at a cell
 module _ (n k : ℕ) (h : k < 28) (p : Spot) (q : ℕ) (s : q ≤ 1) (e : HasParity (2 * 2 ^ n) k p q) where
-  side-bit : (i : ℕ) → i < 3 → side n k i (place (suc n) k p) ≡ bitAt k i (coarse (2 ^ n) p)
-  unfolding side bitAt
-  side-bit i l =
-      let a = axis k i in
-      let t = threshold k i in
-      let u = upward k i in
-      let c = seen a (coarse (2 ^ n) p) in
-      let w = gap (2 ^ n) a t p q in
-      let r = shaped k i h l .1 .1 .1 .0 in
-      ap (λ v. bit (leZ (negsuc 0) v)) (value-is n k i p q h l s e)
-      ∙ elim (decLt c t) [
-        | yes b ↦ bit-low w (slope k i) u r (gap-low (2 ^ n) a t p q s (two-power n) b) ∙ sym (ap (λ b. cond b (1 - u) u) (lt-ltb c t b))
-        | no b ↦ (let b' : t ≤ c = omega arith in bit-high w (slope k i) u r (gap-high (2 ^ n) a t p q s (two-power n) b') ∙ sym (ap (λ b. cond b (1 - u) u) (le-ltb c t b')))
-      ]
+  module _ (f : ℤ) (j : Safe f) where
+    side-bit : (i : ℕ) → i < 3 → side f n k i (place (suc n) k p) ≡ bitAt k i (coarse (2 ^ n) p)
+    unfolding side bitAt
+    side-bit i l =
+        let a = axis k i in
+        let t = threshold k i in
+        let u = upward k i in
+        let c = seen a (coarse (2 ^ n) p) in
+        let w = gap (2 ^ n) a t p q in
+        let r = shaped k i h l .1 .1 .1 .0 in
+        ap (λ v. bit (leZ f v)) (value-is n k i p q h l s e)
+        ∙ elim (decLt c t) [
+          | yes b ↦ bit-low w f j (slope k i) u r (gap-low (2 ^ n) a t p q s (two-power n) b) ∙ sym (ap (λ b. cond b (1 - u) u) (lt-ltb c t b))
+          | no b ↦ (let b' : t ≤ c = omega arith in bit-high w f j (slope k i) u r (gap-high (2 ^ n) a t p q s (two-power n) b') ∙ sym (ap (λ b. cond b (1 - u) u) (le-ltb c t b')))
+        ]
 
-  pub chosen-pick : chosen n k (place (suc n) k p) ≡ pick k (coarse (2 ^ n) p)
-  unfolding chosen pick
-  chosen-pick = rw (side-bit 0 (omega arith), side-bit 1 (omega arith), side-bit 2 (omega arith))
+    pub chosen-pick : chosen f n k (place (suc n) k p) ≡ pick k (coarse (2 ^ n) p)
+    unfolding chosen pick
+    chosen-pick = rw (side-bit 0 (omega arith), side-bit 1 (omega arith), side-bit 2 (omega arith))
 
   gap-some : (a t : ℕ) → 0 < up (gap (2 ^ n) a t p q) + dn (gap (2 ^ n) a t p q)
   gap-some a t = elim (decLt (seen a (coarse (2 ^ n) p)) t) [
