@@ -29,9 +29,20 @@ fn cell(part: &mut Part, o: usize, r: u8, s: u64) -> Triple {
     c.triple
 }
 
+// The looks, which the Rust takes and does not count: its picks are one a level above the last, and it compares
+// leaves in the axiom's order, which VU, WU and VW walk from the other end.
+fn looks(o: usize, r: u8, s: u64) -> [u64; 2] {
+    if r == 0 {
+        return [0, 0];
+    }
+    let last = if [1, 3, 4].contains(&o) { 3 - s % 4 } else { s % 4 };
+    [r as u64 - 1, last + 1]
+}
+
 fn position(part: &mut Part, o: usize, r: u8, t: &Triple) {
     let (s, flavor) = shared::position(o, r, t);
-    part.same(format_args!("position {o} {r} {t:?}"), haspbarley::position(o as u8, r, at(t)), Ok([s, flavor as u64]));
+    let [picks, comparisons] = looks(o, r, s);
+    part.same(format_args!("position {o} {r} {t:?}"), haspbarley::position(o as u8, r, at(t)), Ok([s, flavor as u64, picks, comparisons]));
 }
 
 fn every(all: &mut u64) {

@@ -91,8 +91,10 @@ enum {
  * Values: x y z flavor (4). Refusals: 1, 2, 3, 10. */
 uint8_t hb_cell(uint8_t orientation, uint8_t resolution, uint64_t s, int32_t *out, size_t out_len);
 
-/* The position that names a cell.
- * Values: s flavor (2). Refusals: 1, 2, 4, 5, 10. */
+/* The position that names a cell, and how many looks its lookup takes where it is done look by look over
+ * A5's table: classifier picks, one for each level above the last, and leaf comparisons. At resolution 0
+ * both are 0, and together they are at most resolution + 3.
+ * Values: s flavor picks comparisons (4). Refusals: 1, 2, 4, 5, 10. */
 uint8_t hb_position(uint8_t orientation, uint8_t resolution, int32_t x, int32_t y, int32_t z, uint64_t *out,
                     size_t out_len);
 

@@ -46,10 +46,10 @@ pub fn mend(list: &[u8], out: &mut [u8]) -> Result<[u64; 2], u8> {
     told(status, counts)
 }
 
-// s flavor
-pub fn position(o: u8, r: u8, t: [i32; 3]) -> Result<[u64; 2], u8> {
-    let mut out = [0; 2];
-    told(unsafe { hb_position(o, r, t[0], t[1], t[2], out.as_mut_ptr(), 2) }, out)
+// s flavor picks comparisons
+pub fn position(o: u8, r: u8, t: [i32; 3]) -> Result<[u64; 4], u8> {
+    let mut out = [0; 4];
+    told(unsafe { hb_position(o, r, t[0], t[1], t[2], out.as_mut_ptr(), 4) }, out)
 }
 
 // x y z moved

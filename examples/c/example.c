@@ -26,13 +26,13 @@ static void cell(uint8_t orientation, uint8_t resolution, uint64_t s)
 
 static void position(uint8_t orientation, uint8_t resolution, int32_t x, int32_t y, int32_t z)
 {
-    uint64_t out[2] = {0};
+    uint64_t out[4] = {0};
     printf("position %d %d %" PRId32 " %" PRId32 " %" PRId32 ":", orientation, resolution, x, y, z);
-    uint8_t status = hb_position(orientation, resolution, x, y, z, out, 2);
+    uint8_t status = hb_position(orientation, resolution, x, y, z, out, 4);
     if (status != HB_OK)
         printf(" ! %d\n", status);
     else
-        printf(" %" PRIu64 " %" PRIu64 "\n", out[0], out[1]);
+        printf(" %" PRIu64 " %" PRIu64 " %" PRIu64 " %" PRIu64 "\n", out[0], out[1], out[2], out[3]);
 }
 
 /* The curve drawn from its rules, an entry behind its last cell, and whether each cell is that of its
@@ -334,6 +334,7 @@ int main(void)
     draw(4, 6);
     draw(6, 0);
     draw(6, 1);
+    position(2, 0, 0, 0, 0);
     position(0, 2, -1, 2, 0);
     position(1, 2, 0, 3, -3);
     position(0, 1, 0, 2, -2);

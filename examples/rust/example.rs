@@ -239,7 +239,7 @@ fn cell(orientation: u8, resolution: u8, s: u64) {
 }
 
 fn position(orientation: u8, resolution: u8, [x, y, z]: [i32; 3]) {
-    let mut out = [0; 2];
+    let mut out = [0; 4];
     let status = haspbarley::position(orientation, resolution, [x, y, z], &mut out);
     println!("position {orientation} {resolution} {x} {y} {z}: {}", gives(status, &out));
 }
@@ -485,6 +485,7 @@ fn main() {
     draw(4, 6);
     draw(6, 0);
     draw(6, 1);
+    position(2, 0, [0, 0, 0]);
     position(0, 2, [-1, 2, 0]);
     position(1, 2, [0, 3, -3]);
     position(0, 1, [0, 2, -2]);

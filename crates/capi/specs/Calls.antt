@@ -11,11 +11,11 @@ use Rattle.triple.specs.declared.refusal.Refusal.the-variants as Is
 use Rattle.triple.specs.Refusals.{Told, told, refused, numberOf, _>>=_}
 use Rattle.turtle.specs.declared.AB.{AB}
 use Rattle.turtle.specs.Corners.{cornerSumOf, tripleOf}
-use Rattle.lsystem.specs.declared.Position.{Position}
 use Rattle.nodes.specs.declared.Node.{Node}
 use Rattle.nodes.specs.declared.ChildStep.{ChildStep}
 use Rattle.nodes.specs.declared.Reached.{Reached}
-use Rattle.lsystem.specs.Cells.{cellOf, cellValues, positionOf}
+use Rattle.lsystem.specs.Cells.{cellOf, cellValues}
+use Rattle.lsystem.specs.Looks.{locatedOf, locatedValues}
 use Rattle.nodes.specs.Nodes.{childStepOf, nodeOf}
 use Rattle.tables.specs.Descent.{Leaf, descentOf}
 use Rattle.curve.specs.declared.PointCell.{PointCell}
@@ -45,10 +45,6 @@ tripleValues t = t .x ∷ t .y ∷ t .z ∷ []
 -- x y z moved
 abbrev pub pointValues : PointCell → List ℤ
 pointValues p = p .triple .x ∷ p .triple .y ∷ p .triple .z ∷ pos (markOf p) ∷ []
-
--- s flavor
-abbrev pub positionValues : Position → List ℕ
-positionValues p = p .s ∷ p .flavor ∷ []
 
 -- orientation resolution motif flip
 abbrev pub nodeNumbers : Node → List ℤ
@@ -86,7 +82,7 @@ abbrev pub cellCall : ℕ → ℕ → ℕ → Told (List ℤ)
 cellCall o r s = valued cellValues (cellOf o r s)
 
 abbrev pub positionCall : ℕ → ℕ → ℤ → ℤ → ℤ → Told (List ℕ)
-positionCall o r x y z = valued positionValues (positionOf o r (record { x = x; y = y; z = z }))
+positionCall o r x y z = valued locatedValues (locatedOf o r (record { x = x; y = y; z = z }))
 
 abbrev pub nodeCall : ℕ → ℕ → ℤ → ℤ → ℤ → Told (List ℤ × List Float)
 nodeCall o r x y z = valued (λ (p : Reached). nodeValues (p .node)) (nodeOf o r (record { x = x; y = y; z = z }))

@@ -77,7 +77,7 @@ pub extern "C" fn hb_draw(orientation: u8, resolution: u8, out: &mut [i32]) -> u
     }
 }
 
-// The position that names a cell: s flavor.
+// The position that names a cell, and the looks of its lookup: s flavor picks comparisons.
 #[no_mangle]
 pub extern "C" fn hb_position(
     orientation: u8,
@@ -91,7 +91,7 @@ pub extern "C" fn hb_position(
 {
     let answer = lsystem::lookup::triple_to_s(orientation, resolution, Triple::new(x, y, z));
     match answer {
-        PositionAnswer::At(p) => put_position(p, out),
+        PositionAnswer::At(l) => put_position(l, out),
         PositionAnswer::Refused(e) => e.number(),
     }
 }

@@ -6,11 +6,12 @@ ghost use Prim.Native.Nat.{_≤_};
 ghost use Rattle.descent.specs.Answers.{saidLeaf};
 ghost use Rattle.triple.specs.Lent.{statusOf, afterCall, firstOf, secondOf};
 ghost use Rattle.lsystem.specs.Cells.{cellValues};
-ghost use Rattle.capi.specs.Calls.{tripleValues, pointValues, positionValues, nodeValues, stepValues, pairValues, drawnValues, countValues, readingValues, tallyValues, changeNumber, steppedValues};
+ghost use Rattle.lsystem.specs.Looks.{locatedValues};
+ghost use Rattle.capi.specs.Calls.{tripleValues, pointValues, nodeValues, stepValues, pairValues, drawnValues, countValues, readingValues, tallyValues, changeNumber, steppedValues};
 use code::Reading;
 use curve::PointCell;
 use descent::TableCell;
-use lsystem::Position;
+use lsystem::Located;
 use lsystem::cell::Cell;
 use mend::Change;
 use mend::Stepped;
@@ -75,15 +76,18 @@ pub(crate) fn put_point(p: PointCell, out: &mut [i32]) -> u8
     0
 }
 
-// s flavor
-pub(crate) fn put_position(p: Position, out: &mut [u64]) -> u8
-    ensures { λ n. ⌜ (n ≡ statusOf (told (positionValues p)) (now (out .entry))) × (now (out .exit) ≡ afterCall (told (positionValues p)) (now (out .entry))) ⌝ }
+// s flavor picks comparisons
+pub(crate) fn put_position(l: Located, out: &mut [u64]) -> u8
+    ensures { λ n. ⌜ (n ≡ statusOf (told (locatedValues l)) (now (out .entry))) × (now (out .exit) ≡ afterCall (told (locatedValues l)) (now (out .entry))) ⌝ }
 {
-    if out.len() < 2 {
+    if out.len() < 4 {
         return Refusal::Room.number();
     }
-    out[0] = p.s;
-    out[1] = p.flavor as u64;
+    let position = l.position;
+    out[0] = position.s;
+    out[1] = position.flavor as u64;
+    out[2] = l.picks as u64;
+    out[3] = l.comparisons as u64;
     0
 }
 

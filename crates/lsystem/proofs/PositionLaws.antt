@@ -1,7 +1,7 @@
 -- The answer of `triple_to_s`: the flavor's answer says whether the triple is in bounds, and its spot is the position's.
 use mathlib.Core.Path.{_≡_, refl, sym, ap, _∙_, subst}
 use mathlib.Core.Bool.{Bool, true, false, not}
-use Prim.Native.Nat.{ℕ, zero, suc, _+_, _-_, _/_, _^_, _<_, _≤_}
+use Prim.Native.Nat.{ℕ, zero, suc, _+_, _-_, _/_, _%_, _^_, _<_, _≤_}
 use native.Mathlib.Omega.{arith}
 use native.Mathlib.Nat as N
 use borrow.Author.Tests.{le-ltb}
@@ -31,11 +31,15 @@ use Rattle.a5.proofs.Axioms.{bounds-wedge, triple-spot}
 use Rattle.a5.proofs.Once.{position}
 use Rattle.strides.specs.Searches.{onTile, digitsAfter}
 use Rattle.strides.proofs.TileLaws.{digits-position}
+use Rattle.tables.specs.Patterns.{sideThreshold}
 use Rattle.lsystem.specs.declared.Position.{Position}
+use Rattle.lsystem.specs.declared.Located.{Located}
 use Rattle.lsystem.specs.Cells.{seek, positionOf}
+use Rattle.lsystem.specs.Looks.{lookedUp, withLooks, locatedOf}
 use Rattle.lsystem.proofs.CellLaws.{axiomIn}
 use Rattle.lsystem.proofs.EndLaws.{axiom-order}
 use Rattle.lsystem.proofs.Numbering.{only-finds, seek-placed}
+use Rattle.lsystem.proofs.LookLaws.{own-safe, looked-up}
 
 -- ---- a triple in bounds by its spot
 module _ (n : ℕ) (t : Triple) (b : inBounds (suc n) t ≡ true) where
@@ -101,23 +105,32 @@ pub cast-is : {x y g : ℤ} (p : Spot) → x ≡ pos (p .x) → y ≡ pos (p .y)
 cast-is p a b c = spot-is (ap natAbs a) (ap natAbs b) (ap natAbs c)
 
 -- ---- the search
+abbrev located : ℕ → ℕ → ℕ → ℕ → Located
+located s f picks comparisons = record { position = record { s = s; flavor = f }; picks = picks; comparisons = comparisons }
+
+located-is : {s f p c s' f' p' c' : ℕ} → s ≡ s' → f ≡ f' → p ≡ p' → c ≡ c' → told (located s f p c) ≡ told (located s' f' p' c')
+located-is a b c d = λ i. told (located (a i) (b i) (c i) (d i))
+
 module _ (o n : ℕ) (t : Triple) (h : o ≤ 5) (k : n ≤ 29) (b : inBounds (suc n) t ≡ true) (u : Spot) (e : u ≡ spotAt n t) (p : ℕ) (ep : p ≡ digitsAfter (suc n) u (onTile (32 + o / 2))) where
   place-found : p ≡ position (axiomIn o) n t
   place-found = ep ∙ (λ i. digitsAfter (suc n) (e i) (onTile (32 + axiom-order o h i))) ∙ digits-position (axiomIn o) n t b
 
-  looked-up : {w : Recipe} → w ≡ recipeOf o → {m : ℕ} → m ≡ positionCount (suc n) → {s : ℕ} → s ≡ placeFrom (w .backward) m p → told (record { s = s; flavor = closedFlavor (suc n) t }) ≡ seek o (suc n) t (4 ^ suc n) 0
-  looked-up ew em es =
-      ap (λ s. told (record { s = s; flavor = closedFlavor (suc n) t })) (place-is o ew (suc n) p (omega arith) em es ∙ ap (curvePlace o (suc n)) place-found)
-      ∙ sym (seek-placed o n h k t b)
+  looked-up-at : {w : Recipe} → w ≡ recipeOf o → {m : ℕ} → m ≡ positionCount (suc n) → {s : ℕ} → s ≡ placeFrom (w .backward) m p → {f : ℕ} → f ≡ closedFlavor (suc n) t
+      → told (located s f (suc n - 1) (p % 4 + 1)) ≡ withLooks o (suc n) t (seek o (suc n) t (4 ^ suc n) 0)
+  unfolding withLooks
+  looked-up-at ew em es ef =
+      let l = looked-up o n h t b sideThreshold own-safe in
+      located-is (place-is o ew (suc n) p (omega arith) em es ∙ ap (curvePlace o (suc n)) place-found) ef (omega arith ∙ sym (ap (λ l. l .picks) l)) (ap (λ p. p % 4 + 1) place-found ∙ sym (ap (λ l. l .comparisons) l))
+      ∙ ap (withLooks o (suc n) t) (sym (seek-placed o n h k t b))
 
 -- the same, as the code has the resolution
 module _ (o : ℕ) (t : Triple) (u : Spot) (p : ℕ) where
-  pub found-at : (r : ℕ) → (o ≤ 5) × ((0 < r) × ((r ≤ 30) × (inBounds r t ≡ true))) → u ≡ spotAt (r - 1) t → p ≡ digitsAfter r u (onTile (32 + o / 2))
-      → {w : Recipe} → w ≡ recipeOf o → {m : ℕ} → m ≡ positionCount r → {s : ℕ} → s ≡ placeFrom (w .backward) m p → told (record { s = s; flavor = closedFlavor r t }) ≡ seek o r t (4 ^ r) 0
-  found-at zero h e ep = absurd (N.not-suc-le-zero (h .1 .0))
-  found-at (suc n) h e ep =
+  pub found-at : (r : ℕ) {f : ℕ} → (o ≤ 5) × ((0 < r) × ((r ≤ 30) × ((inBounds r t ≡ true) × (f ≡ closedFlavor r t)))) → u ≡ spotAt (r - 1) t → p ≡ digitsAfter r u (onTile (32 + o / 2))
+      → {w : Recipe} → w ≡ recipeOf o → {m : ℕ} → m ≡ positionCount r → {s : ℕ} → s ≡ placeFrom (w .backward) m p → told (located s f (r - 1) (p % 4 + 1)) ≡ withLooks o r t (seek o r t (4 ^ r) 0)
+  found-at zero h e ep ew em es = absurd (N.not-suc-le-zero (h .1 .0))
+  found-at (suc n) h e ep ew em es =
       let m : suc n - 1 ≡ n = omega arith in
-      looked-up o n t (h .0) (omega (arith, h .1 .1 .0)) (h .1 .1 .1) u (e ∙ ap (λ n. spotAt n t) m) p ep
+      looked-up-at o n t (h .0) (omega (arith, h .1 .1 .0)) (h .1 .1 .1 .0) u (e ∙ ap (λ n. spotAt n t) m) p ep ew em es (h .1 .1 .1 .1)
 
 -- ---- the answer, by the tests in their order
 abbrev answered : {A : Type 0} → Bool → Bool → Told A → Told A
@@ -133,10 +146,14 @@ told-within true true e = (refl, (refl, (cc)))
 told-within true false e = let z : _≡_ {A = ℕ} 0 1 = cc in absurd (omega arith)
 told-within false within e = let z : _≡_ {A = ℕ} 0 1 = cc in absurd (omega arith)
 
+refused-located : (o r : ℕ) (t : Triple) {n : ℕ} → refused n ≡ positionOf o r t → refused n ≡ locatedOf o r t
+unfolding locatedOf withLooks
+refused-located o r t e = rw (sym e)
+
 module _ (o r : ℕ) (t : Triple) {a : DomainAnswer} (ea : saidDomain a ≡ domainOf o r) where
-  pub position-outside : {e : Refusal} → a ≡ DomainAnswer.Refused e → refused (numberOf e) ≡ positionOf o r t
+  pub position-outside : {e : Refusal} → a ≡ DomainAnswer.Refused e → refused (numberOf e) ≡ locatedOf o r t
   unfolding positionOf
-  position-outside m = out-of-domain o r a ea _ m
+  position-outside m = refused-located o r t (out-of-domain o r a ea _ m)
 
   module _ (m : a ≡ DomainAnswer.In) (b : FlavorAnswer) (eb : saidFlavor b ≡ flavorOf r t) where
     known : saidFlavor b ≡ answered (goodSum t) (inBounds r t) (told (closedFlavor r t))
@@ -147,8 +164,8 @@ module _ (o r : ℕ) (t : Triple) {a : DomainAnswer} (ea : saidDomain a ≡ doma
     unfolding positionOf
     searched = in-domain o r a ea m _
 
-    pub position-refused : {e : Refusal} → b ≡ FlavorAnswer.Refused e → refused (numberOf e) ≡ positionOf o r t
-    position-refused {e} k = refused-alike _ _ (numberOf e) (goodSum t) (inBounds r t) (ap saidFlavor (sym k) ∙ known) ∙ searched
+    pub position-refused : {e : Refusal} → b ≡ FlavorAnswer.Refused e → refused (numberOf e) ≡ locatedOf o r t
+    position-refused {e} k = refused-located o r t (refused-alike _ _ (numberOf e) (goodSum t) (inBounds r t) (ap saidFlavor (sym k) ∙ known) ∙ searched)
 
     module _ {f : ℕ} (k : b ≡ FlavorAnswer.Flavor f) where
       within : (goodSum t ≡ true) × ((inBounds r t ≡ true) × (f ≡ closedFlavor r t))
@@ -157,18 +174,19 @@ module _ (o r : ℕ) (t : Triple) {a : DomainAnswer} (ea : saidDomain a ≡ doma
       pub within-bounds : inBounds r t ≡ true
       within-bounds = within .1 .0
 
-      pub position-found : {s : ℕ} → told (record { s = s; flavor = closedFlavor r t }) ≡ seek o r t (4 ^ r) 0 → told (record { s = s; flavor = f }) ≡ positionOf o r t
-      position-found {s} e =
-          ap (λ f. told (record { s = s; flavor = f })) (within .1 .1)
-          ∙ e
-          ∙ (λ i. answered (sym (within .0) i) (sym (within .1 .0) i) (seek o r t (4 ^ r) 0))
-          ∙ searched
+      pub within-flavor : f ≡ closedFlavor r t
+      within-flavor = within .1 .1
 
-      pub position-only : r ≤ 0 → told (record { s = 0; flavor = f }) ≡ positionOf o r t
-      position-only z = position-found (only r (within .1 .0) z)
+      pub position-found : {l : Located} → told l ≡ withLooks o r t (seek o r t (4 ^ r) 0) → told l ≡ locatedOf o r t
+      unfolding locatedOf
+      position-found e = e ∙ ap (withLooks o r t) ((λ i. answered (sym (within .0) i) (sym (within .1 .0) i) (seek o r t (4 ^ r) 0)) ∙ searched)
+
+      pub position-only : r ≤ 0 → told (located 0 f 0 0) ≡ locatedOf o r t
+      unfolding withLooks lookedUp
+      position-only z = position-found (only r (within .1 .0) z (within .1 .1))
         where
-          only : (r : ℕ) → inBounds r t ≡ true → r ≤ 0 → told (record { s = 0; flavor = closedFlavor r t }) ≡ seek o r t (4 ^ r) 0
-          only zero b z = sym (only-finds o t b)
-          only (suc n) b z = let y : ⊥ = omega arith in absurd y
+          only : (r : ℕ) → inBounds r t ≡ true → r ≤ 0 → f ≡ closedFlavor r t → told (located 0 f 0 0) ≡ withLooks o r t (seek o r t (4 ^ r) 0)
+          only zero b z e = ap (λ f. told (located 0 f 0 0)) e ∙ ap (withLooks o 0 t) (sym (only-finds o t b))
+          only (suc n) b z e = let y : ⊥ = omega arith in absurd y
 
-pub ruleset positions = (shallow, oriented, within-bounds, position-outside, position-refused, position-found, position-only)
+pub ruleset positions = (shallow, oriented, within-bounds, within-flavor, position-outside, position-refused, position-found, position-only)

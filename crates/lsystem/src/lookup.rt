@@ -5,8 +5,10 @@ ghost use Prim.Native.Nat.{_<_, _≤_, _-_, _^_};
 ghost use Rattle.triple.specs.Refusals.{told};
 ghost use Rattle.triple.specs.Triples.{inBounds, closedFlavor};
 ghost use Rattle.a5.specs.Inside.Spots.{spot, spotAt};
-ghost use Rattle.lsystem.specs.Answers.{saidPosition};
-ghost use Rattle.lsystem.specs.Cells.{positionOf, seek};
+ghost use Rattle.lsystem.specs.Answers.{saidLocated};
+ghost use Rattle.lsystem.specs.Cells.{seek};
+ghost use Rattle.lsystem.specs.Looks.{withLooks, locatedOf};
+use crate::Located;
 use crate::Position;
 use crate::search::Spot;
 use crate::search::search;
@@ -21,7 +23,7 @@ use triple::orientation::recipe_of;
 use triple::refusal::Refusal;
 
 pub enum PositionAnswer {
-    At(Position),
+    At(Located),
     Refused(Refusal),
 }
 
@@ -38,20 +40,26 @@ fn spot_of(resolution: u8, t: Triple) -> Spot
     }
 }
 
-// The position of a triple in bounds.
-fn looked_up(orientation: u8, resolution: u8, t: Triple) -> u64
-    requires { ⌜ (orientation ≤ 5) × ((0 < resolution) × ((resolution ≤ 30) × (inBounds resolution t ≡ true))) ⌝ }
-    ensures { λ s. ⌜ told (record { s = s; flavor = closedFlavor resolution t }) ≡ seek orientation resolution t (4 ^ resolution) 0 ⌝ }
+// The position of a triple in bounds, whose flavor is known. The looks are not taken: from the place on the axiom's
+// curve, how many they would be is a remainder away.
+fn looked_up(orientation: u8, resolution: u8, t: Triple, flavor: u8) -> Located
+    requires { ⌜ (orientation ≤ 5) × ((0 < resolution) × ((resolution ≤ 30) × ((inBounds resolution t ≡ true) × (flavor ≡ closedFlavor resolution t)))) ⌝ }
+    ensures { λ l. ⌜ told l ≡ withLooks orientation resolution t (seek orientation resolution t (4 ^ resolution) 0) ⌝ }
 {
     let letter = (orientation / 2) as u64;
     let place = search(letter, resolution as u64, spot_of(resolution, t));
     let recipe = recipe_of(orientation);
-    place_from(recipe.backward, position_count(resolution), place)
+    let s = place_from(recipe.backward, position_count(resolution), place);
+    Located {
+        position: Position { s, flavor },
+        picks: resolution - 1,
+        comparisons: (place % 4) as u8 + 1,
+    }
 }
 
-// The position of a triple. The one cell of resolution 0 is on no tile.
+// The position of a triple, and the looks of its lookup. The one cell of resolution 0 is on no tile, and takes none.
 pub fn triple_to_s(orientation: u8, resolution: u8, t: Triple) -> PositionAnswer
-    ensures { λ a. ⌜ saidPosition a ≡ positionOf orientation resolution t ⌝ }
+    ensures { λ a. ⌜ saidLocated a ≡ locatedOf orientation resolution t ⌝ }
 {
     let domain = domain_of(orientation, resolution);
     if let DomainAnswer::Refused(e) = domain {
@@ -61,10 +69,13 @@ pub fn triple_to_s(orientation: u8, resolution: u8, t: Triple) -> PositionAnswer
     match known {
         FlavorAnswer::Flavor(flavor) => {
             if resolution > 0 {
-                let s = looked_up(orientation, resolution, t);
-                return PositionAnswer::At(Position { s, flavor });
+                return PositionAnswer::At(looked_up(orientation, resolution, t, flavor));
             }
-            PositionAnswer::At(Position { s: 0, flavor })
+            PositionAnswer::At(Located {
+                position: Position { s: 0, flavor },
+                picks: 0,
+                comparisons: 0,
+            })
         }
         FlavorAnswer::Refused(e) => PositionAnswer::Refused(e),
     }

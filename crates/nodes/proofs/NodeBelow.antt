@@ -1,29 +1,26 @@
 -- The node below a cell: what a position that is told says of its arguments, and where the descent by all of its digits ends.
 use mathlib.Core.Path.{_≡_, refl, sym, ap, _∙_, subst}
-use mathlib.Core.Bool.{Bool, true, false, not}
 use Prim.Native.Nat.{ℕ, _*_, _/_, _^_, _<_, _≤_}
 use native.Mathlib.Omega.{arith}
 use native.Mathlib.Nat as N
-use borrow.Author.Tests.{ltb-false, not-false}
-use lib.Dec.{ltb}
 use mir.Syntax.{w64}
 use mir.Val.{Fits}
 use Rattle.triple.specs.declared.Triple.{Triple}
 use Rattle.triple.specs.declared.orientation.Recipe.{Recipe}
 use Rattle.triple.specs.declared.refusal.Refusal.{Refusal}
-use Rattle.triple.specs.declared.refusal.Refusal.the-variants as Is
-use Rattle.triple.specs.Refusals.{Told, told, refused, numberOf, refuse}
-use Rattle.triple.specs.Domain.{greatestResolution, greatestOrientation, positionCount}
+use Rattle.triple.specs.Refusals.{told, refused, numberOf}
+use Rattle.triple.specs.Domain.{positionCount}
 use Rattle.triple.specs.Orientations.{recipeOf, placeFrom, curvePlace}
-use Rattle.triple.specs.Triples.{goodSum, inBounds}
-use Rattle.triple.proofs.RefusalLaws.{passed}
 use Rattle.triple.proofs.OrientationLaws.{place-small, place-is, motif-fits}
 use Rattle.lsystem.specs.declared.Position.{Position}
+use Rattle.lsystem.specs.declared.Located.{Located}
 use Rattle.lsystem.specs.declared.lookup.PositionAnswer.{PositionAnswer}
-use Rattle.lsystem.specs.Answers.{saidPosition}
+use Rattle.lsystem.specs.Answers.{saidLocated, saidPosition}
 use Rattle.lsystem.specs.Cells.{positionOf}
+use Rattle.lsystem.specs.Looks.{locatedOf}
+use Rattle.lsystem.proofs.LookLaws.{position-said}
 use Rattle.lsystem.proofs.CellCode.{axiom-state-small}
-use Rattle.lsystem.proofs.Numbering.{numbers}
+use Rattle.lsystem.proofs.Numbering.{numbers, position-good, told-in}
 use Rattle.nodes.specs.declared.Frame.{Frame}
 use Rattle.nodes.specs.declared.Node.{Node}
 use Rattle.nodes.specs.declared.descent.Place.{Place}
@@ -42,36 +39,33 @@ same : {p q : Position} → told p ≡ told q → p .s ≡ q .s
 same {p} {q} e = let z : p ≡ q = cc in ap (λ (p : Position). p .s) z
 
 pub told-asked : (o r : ℕ) (t : Triple) (p : Position) → positionOf o r t ≡ told p → Asked o r (p .s)
-unfolding positionOf
 told-asked o r t p e =
-    let deep = passed (ltb greatestResolution r) Is.Resolution e in
-    let unoriented = passed (ltb greatestOrientation o) Is.Orientation (deep .1) in
-    let odd = passed (not (goodSum t)) Is.Sum (unoriented .1) in
-    let outside = passed (not (inBounds r t)) Is.Bounds (odd .1) in
-    let k = ltb-false 30 r (deep .0) in
-    let h = ltb-false 5 o (unoriented .0) in
-    let b = not-false (inBounds r t) (outside .0) in
-    let n = numbers o r h k in
-    record { orientation = h; resolution = k; position = subst (λ s. s < 4 ^ r) (same (sym (n .finds t b) ∙ outside .1)) (n .small t b) }
+    let a = told-in o r t p e in
+    let n = numbers o r (a .0) (a .1) in
+    let found = sym (n .finds t (a .2)) ∙ sym (position-good o r (a .0) (a .1) t (a .2)) ∙ e in
+    record { orientation = a .0; resolution = a .1; position = subst (λ s. s < 4 ^ r) (same found) (n .small t (a .2)) }
 
-module _ (o r : ℕ) (t : Triple) (a : PositionAnswer) (ea : saidPosition a ≡ positionOf o r t) where
+module _ (o r : ℕ) (t : Triple) (a : PositionAnswer) (ea : saidLocated a ≡ locatedOf o r t) where
+  found : saidPosition a ≡ positionOf o r t
+  found = position-said o r t a ea
+
   pub reached-refused : {e : Refusal} → a ≡ PositionAnswer.Refused e → refused (numberOf e) ≡ nodeOf o r t
   unfolding nodeOf
-  reached-refused m = rw (sym ea ∙ ap saidPosition m)
+  reached-refused m = rw (sym found ∙ ap saidPosition m)
 
-  module _ {p : Position} (m : a ≡ PositionAnswer.At p) where
-    asked : Asked o r (p .s)
-    asked = told-asked o r t p (sym ea ∙ ap saidPosition m)
+  module _ {l : Located} (m : a ≡ PositionAnswer.At l) where
+    asked : Asked o r (l .position .s)
+    asked = told-asked o r t (l .position) (sym found ∙ ap saidPosition m)
 
     pub asked-resolution : r ≤ 30
     asked-resolution = asked .resolution
 
-    pub asked-position : p .s < 4 ^ r
+    pub asked-position : l .position .s < 4 ^ r
     asked-position = asked .position
 
-    pub reached-told : {f : Frame} → f ≡ frameAt o r (p .s) → {n : Node} → n ≡ record { orientation = o; resolution = r; frame = f } → told (record { position = p; node = n }) ≡ nodeOf o r t
+    pub reached-told : {f : Frame} → f ≡ frameAt o r (l .position .s) → {n : Node} → n ≡ record { orientation = o; resolution = r; frame = f } → told (record { position = l .position; node = n }) ≡ nodeOf o r t
     unfolding nodeOf nodeAt
-    reached-told ef en = rw (sym ea ∙ ap saidPosition m, en, ef)
+    reached-told ef en = rw (sym found ∙ ap saidPosition m, en, ef)
 
 pub ruleset reaching = (asked-resolution, asked-position, reached-told, reached-refused)
 

@@ -316,7 +316,8 @@ pub fn triple_to_curve_node(orientation: u8, resolution: u8, t: Triple) -> Reach
 {
     let found = triple_to_s(orientation, resolution, t);
     match found {
-        PositionAnswer::At(position) => {
+        PositionAnswer::At(l) => {
+            let position = l.position;
             let frame = frame_below(orientation, resolution, position.s);
             let node = Node::new(orientation, resolution, frame);
             ReachedAnswer::Reached(Reached { position, node })

@@ -49,7 +49,10 @@ fn position_found(o: u8, r: u8, t: Triple) -> FoundAnswer
 {
     let found = triple_to_s(o, r, t);
     match found {
-        PositionAnswer::At(p) => FoundAnswer::Found(Found::Position(p)),
+        PositionAnswer::At(l) => {
+            let position = l.position;
+            FoundAnswer::Found(Found::Position(position))
+        }
         PositionAnswer::Refused(e) => FoundAnswer::Refused(e),
     }
 }
@@ -74,7 +77,10 @@ fn point_position(o: u8, r: u8, c: PointCell) -> FoundAnswer
     let t = c.triple;
     let found = triple_to_s(o, r, t);
     match found {
-        PositionAnswer::At(p) => FoundAnswer::Found(Found::Point(c, p)),
+        PositionAnswer::At(l) => {
+            let position = l.position;
+            FoundAnswer::Found(Found::Point(c, position))
+        }
         PositionAnswer::Refused(e) => FoundAnswer::Refused(e),
     }
 }

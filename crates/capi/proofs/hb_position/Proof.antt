@@ -1,9 +1,8 @@
 -- `hb_position`: the position's values are written, or the refusal's number is answered; the triple is that of the numbers given.
 use mathlib.Core.Path.{ap, _∙_}
 use borrow.Author.Needs.{needs}
-use Rattle.lsystem.specs.Answers.{saidPosition}
-use Rattle.lsystem.specs.Cells.{positionOf}
-use Rattle.capi.specs.Calls.{positionValues}
+use Rattle.lsystem.specs.Answers.{saidLocated}
+use Rattle.lsystem.specs.Looks.{locatedOf, locatedValues}
 use Rattle.triple.proofs.LentLaws.{call-told, call-refused}
 use Rattle.capi.proofs.SignedLaws.{triple-made}
 use Rattle.capi.proofs.hb_position.Statement.{statement}
@@ -33,12 +32,12 @@ same-length c = search needs
 returns : tie.Need-returns
 returns c =
     let a = c .before .before .before .before .before in
-    call-told positionValues _ (a .before .before .triple-to-s .ensures ∙ ap (positionOf _ _) (triple-made (search needs) (a .before .before .before .new .ensures))) (ap saidPosition (a .answer .given .1)) (c .before .before .put-position .ensures)
+    call-told locatedValues _ (a .before .before .triple-to-s .ensures ∙ ap (locatedOf _ _) (triple-made (search needs) (a .before .before .before .new .ensures))) (ap saidLocated (a .answer .given .1)) (c .before .before .put-position .ensures)
 
 returns-2 : tie.Need-returns-2
 returns-2 c =
     let a = c .before .before in
-    call-refused positionValues _ (a .before .before .triple-to-s .ensures ∙ ap (positionOf _ _) (triple-made (search needs) (a .before .before .before .new .ensures))) (ap saidPosition (a .answer2 .given .1)) (c .number .ensures)
+    call-refused locatedValues _ (a .before .before .triple-to-s .ensures ∙ ap (locatedOf _ _) (triple-made (search needs) (a .before .before .before .new .ensures))) (ap saidLocated (a .answer2 .given .1)) (c .number .ensures)
 
 pub hb-position-spec : {M : Type 1} → statement M
 hb-position-spec =

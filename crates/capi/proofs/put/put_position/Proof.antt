@@ -1,4 +1,6 @@
--- `put::put_position`: the slice is too short, or it gets two values.
+-- `put::put_position`: the slice is too short, or it gets four values.
+use native.Mathlib.Omega.{arith}
+use lib.ListN.{length-set}
 use borrow.Author.Needs.{needs}
 use Rattle.triple.proofs.LentLaws.{put-short, put-whole}
 use Rattle.capi.proofs.put.put_position.Statement.{statement}
@@ -17,7 +19,19 @@ cast-out : tie.Need-cast-out
 cast-out c = search needs
 
 slice-write-out-2 : tie.Need-slice-write-out-2
-slice-write-out-2 c = search needs
+slice-write-out-2 c = simp length-set (omega arith)
+
+cast-out-2 : tie.Need-cast-out-2
+cast-out-2 c = search needs
+
+slice-write-out-3 : tie.Need-slice-write-out-3
+slice-write-out-3 c = simp length-set (omega arith)
+
+cast-out-3 : tie.Need-cast-out-3
+cast-out-3 c = search needs
+
+slice-write-out-4 : tie.Need-slice-write-out-4
+slice-write-out-4 c = simp length-set (omega arith)
 
 same-length : tie.Need-same-length
 same-length c = search needs
@@ -34,5 +48,9 @@ put-position-spec =
     slice-write-out
     cast-out
     slice-write-out-2
+    cast-out-2
+    slice-write-out-3
+    cast-out-3
+    slice-write-out-4
     same-length
     returns-2)

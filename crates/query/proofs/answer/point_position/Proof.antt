@@ -1,10 +1,6 @@
 -- `answer::point_position`: the point's cell and its position, or the refusal.
 use borrow.Author.Needs.{needs}
-use mathlib.Core.Path.{_≡_, refl, sym, ap, _∙_}
-use Rattle.triple.specs.Refusals.{told}
-use Rattle.lsystem.specs.Answers.{saidPosition}
-use Rattle.query.specs.declared.Found.{Found}
-use Rattle.query.proofs.AnswerLaws.{made-told, made-refused}
+use Rattle.query.proofs.AnswerLaws.{placing}
 use Rattle.query.proofs.answer.point_position.Statement.{statement}
 use Rattle.query.proofs.answer.point_position.Tie as tie
 
@@ -18,14 +14,10 @@ enum-known-found-2 : tie.Need-enum-known-found-2
 enum-known-found-2 c = search needs
 
 returns : tie.Need-returns
-returns c =
-    let a = c .before in
-    made-told (λ p. told (Found.Point _ p)) (a .before .before .triple-to-s .ensures) (ap saidPosition (a .found .given .1)) refl
+returns c = search (needs, placing)
 
 returns-2 : tie.Need-returns-2
-returns-2 c =
-    let a = c .before in
-    made-refused (λ p. told (Found.Point _ p)) (a .before .before .triple-to-s .ensures) (ap saidPosition (a .found2 .given .1))
+returns-2 c = search (needs, placing)
 
 pub point-position-spec : {M : Type 1} → statement M
 point-position-spec =

@@ -1,11 +1,6 @@
 -- `answer::position_found`: the position that is told, or the refusal.
 use borrow.Author.Needs.{needs}
-use mathlib.Core.Path.{_≡_, refl, sym, ap, _∙_}
-use Rattle.triple.specs.Refusals.{told}
-use Rattle.lsystem.specs.Answers.{saidPosition}
-use Rattle.query.specs.declared.Found.{Found}
-use Rattle.query.specs.Queries.{answerOf}
-use Rattle.query.proofs.AnswerLaws.{made-told, made-refused}
+use Rattle.query.proofs.AnswerLaws.{placing}
 use Rattle.query.proofs.answer.position_found.Statement.{statement}
 use Rattle.query.proofs.answer.position_found.Tie as tie
 
@@ -19,16 +14,10 @@ enum-known-found-2 : tie.Need-enum-known-found-2
 enum-known-found-2 c = search needs
 
 returns : tie.Need-returns
-unfolding answerOf
-returns c =
-    let a = c .before in
-    made-told (λ p. told (Found.Position p)) (a .before .before .triple-to-s .ensures) (ap saidPosition (a .found .given .1)) refl
+returns c = search (needs, placing)
 
 returns-2 : tie.Need-returns-2
-unfolding answerOf
-returns-2 c =
-    let a = c .before in
-    made-refused (λ p. told (Found.Position p)) (a .before .before .triple-to-s .ensures) (ap saidPosition (a .found2 .given .1))
+returns-2 c = search (needs, placing)
 
 pub position-found-spec : {M : Type 1} → statement M
 position-found-spec =
