@@ -6,6 +6,7 @@ use Rattle.demands.proofs.Refused.{refusals}
 use Rattle.demands.proofs.Kept.{lent-buffers}
 use Rattle.demands.proofs.Inverse.{corner-sums}
 use Rattle.demands.proofs.ExactlyOnce.{numbering}
+use Rattle.demands.proofs.Counted.{lookups}
 use Rattle.demands.proofs.Steps.{child-steps, child-step}
 use Rattle.demands.proofs.Rounded.{points}
 use Rattle.demands.proofs.RoundedExactly.{exact-points}
@@ -25,6 +26,7 @@ demands = record {
   lent-buffers = lent-buffers;
   corner-sums = corner-sums;
   numbering = numbering;
+  lookups = lookups;
   child-steps = child-steps;
   child-step = child-step;
   points = points;

@@ -12,6 +12,8 @@ pub mod Kept
 pub mod Inverse
 -- every in-bounds triple is named exactly once, over triples alone
 pub mod ExactlyOnce
+-- the looks of a lookup, as it reports them
+pub mod Counted
 -- the walk by child steps reaches the cell that s names
 pub mod Steps
 -- the triple of a point is in bounds

@@ -33,6 +33,7 @@ use Rattle.tables.specs.Descent.{goodTable, descentOf}
 use Rattle.tables.specs.Verdicts.{badSplit, splitTests, verdict}
 use Rattle.lsystem.specs.declared.cell.Cell.{Cell}
 use Rattle.lsystem.specs.Cells.{named, cellOf, positionOf}
+use Rattle.lsystem.specs.Looks.{withLooks, locatedOf}
 use Rattle.lsystem.proofs.Numbering.{numbers as numbers-of}
 use Rattle.sketch.specs.Drawings.{drawCall}
 use Rattle.sketch.proofs.DrawLaws.{cells-told}
@@ -88,6 +89,10 @@ module _ {numbers : List ℕ} (o r : ℕ) where
       by-test (not (goodSum t)) Is.Sum sum λ g.
       by-test (not (inBounds r t)) Is.Bounds bounds λ b.
       by-answer (numbers-of o r (ltb-false 5 o h) (ltb-false 30 r k) .finds t (not-false (inBounds r t) b))
+
+located : (o r : ℕ) (t : Triple) → AnsweredOr (1 ∷ 2 ∷ 4 ∷ 5 ∷ []) (locatedOf o r t)
+unfolding locatedOf withLooks
+located o r t = by-step (position o r t tt tt tt tt) λ p. answer
 
 -- ---- corner sums
 corner-sum : (t : Triple) → AnsweredOr (4 ∷ []) (cornerSumOf t)
@@ -320,7 +325,7 @@ refusals = record {
   corner-sum = corner-sum;
   inverse = inverse;
   cell = λ o r s. cell o r s tt tt tt;
-  position = λ o r t. position o r t tt tt tt tt;
+  position = located;
   axiom-node = axiom-node;
   node = node;
   child = child;

@@ -30,6 +30,7 @@ use Rattle.a5.specs.A5.{a5Text}
 use Rattle.lsystem.specs.declared.cell.Cell.{Cell}
 use Rattle.lsystem.specs.declared.Position.{Position}
 use Rattle.lsystem.specs.Cells.{drawnCell, named, cellOf, positionOf}
+use Rattle.lsystem.specs.Looks.{locatedOf}
 use Rattle.sketch.specs.Drawings.{drawCall, descended}
 use Rattle.nodes.specs.declared.Node.{Node}
 use Rattle.nodes.specs.declared.ChildStep.{ChildStep}
@@ -51,6 +52,7 @@ use Rattle.query.specs.declared.Query.{Query}
 use Rattle.query.specs.Queries.{answerOf}
 use Rattle.query.specs.Lines.{queryOf}
 use Rattle.capi.specs.Calls.{cellCall, CompileCalled}
+use Rattle.demands.specs.Lookups.{Lookups}
 use Rattle.demands.specs.Dozen.{Dozen, moved as movedTo}
 
 -- ---- calls: every call on every input ends with an answer or a numbered refusal
@@ -83,8 +85,8 @@ pub record Refusals : Type 0 where
   pub inverse : (p : AB) → AnsweredOr (6 ∷ []) (tripleOf p)
   -- the cell that a position names
   pub cell : (o r s : ℕ) → AnsweredOr (1 ∷ 2 ∷ 3 ∷ []) (cellOf o r s)
-  -- the position that names a triple
-  pub position : (o r : ℕ) (t : Triple) → AnsweredOr (1 ∷ 2 ∷ 4 ∷ 5 ∷ []) (positionOf o r t)
+  -- the position that names a triple, with the looks of its lookup
+  pub position : (o r : ℕ) (t : Triple) → AnsweredOr (1 ∷ 2 ∷ 4 ∷ 5 ∷ []) (locatedOf o r t)
   -- the node of an orientation's axiom
   pub axiom-node : (o : ℕ) → AnsweredOr (2 ∷ []) (axiomNodeOf o)
   -- the node of a triple
@@ -397,6 +399,8 @@ pub record Demands : Type 1 where
   pub corner-sums : CornerSums
   -- at resolutions 0 to 30 and in six orientations
   pub numbering : (o r : ℕ) → o ≤ 5 → r ≤ 30 → Numbering o r
+  -- for every triple and every resolution, in every orientation
+  pub lookups : Lookups
   -- there, for every position
   pub child-steps : (o r s : ℕ) → o ≤ 5 → r ≤ 30 → s < 4 ^ r → ChildSteps o r s
   -- for every node and every digit
