@@ -7,6 +7,7 @@ use Rattle.demands.proofs.Kept.{lent-buffers}
 use Rattle.demands.proofs.Inverse.{corner-sums}
 use Rattle.demands.proofs.ExactlyOnce.{numbering}
 use Rattle.demands.proofs.Counted.{lookups}
+use Rattle.demands.proofs.SafeThresholds.{threshold, thresholds}
 use Rattle.demands.proofs.Steps.{child-steps, child-step}
 use Rattle.demands.proofs.Rounded.{points}
 use Rattle.demands.proofs.RoundedExactly.{exact-points}
@@ -27,6 +28,8 @@ demands = record {
   corner-sums = corner-sums;
   numbering = numbering;
   lookups = lookups;
+  threshold = λ o r t h l k b. threshold o r t h k b;
+  thresholds = thresholds;
   child-steps = child-steps;
   child-step = child-step;
   points = points;

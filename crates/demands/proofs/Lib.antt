@@ -14,6 +14,8 @@ pub mod Inverse
 pub mod ExactlyOnce
 -- the looks of a lookup, as it reports them
 pub mod Counted
+-- why the threshold of its separators is safe
+pub mod SafeThresholds
 -- the walk by child steps reaches the cell that s names
 pub mod Steps
 -- the triple of a point is in bounds

@@ -53,6 +53,7 @@ use Rattle.query.specs.Queries.{answerOf}
 use Rattle.query.specs.Lines.{queryOf}
 use Rattle.capi.specs.Calls.{cellCall, CompileCalled}
 use Rattle.demands.specs.Lookups.{Lookups}
+use Rattle.demands.specs.Thresholds.{Threshold, Thresholds}
 use Rattle.demands.specs.Dozen.{Dozen, moved as movedTo}
 
 -- ---- calls: every call on every input ends with an answer or a numbered refusal
@@ -401,6 +402,9 @@ pub record Demands : Type 1 where
   pub numbering : (o r : ℕ) → o ≤ 5 → r ≤ 30 → Numbering o r
   -- for every triple and every resolution, in every orientation
   pub lookups : Lookups
+  -- at resolutions 2 to 30, in six orientations, for every triple in bounds; and for every state of A5's table
+  pub threshold : (o r : ℕ) (t : Triple) → o ≤ 5 → 2 ≤ r → r ≤ 30 → inBounds r t ≡ true → Threshold o r t
+  pub thresholds : Thresholds
   -- there, for every position
   pub child-steps : (o r s : ℕ) → o ≤ 5 → r ≤ 30 → s < 4 ^ r → ChildSteps o r s
   -- for every node and every digit

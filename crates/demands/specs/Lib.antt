@@ -1,3 +1,4 @@
 pub mod Lookups
+pub mod Thresholds
 pub mod Demands
 pub mod Dozen
