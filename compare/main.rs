@@ -1,12 +1,14 @@
 // Compares the library with the Rust, answer by answer, on the domain of the lattice: every position
-// and every triple at resolutions 0 to 7 in six orientations, random ones at 8 to 30, nodes along
-// random walks, points of every magnitude and on every edge, points by exact fractions against integers
-// that hold them, corner sums both ways. Prints a line for each part; the first difference of a part is
-// shown, and the program then ends with status 1.
+// and every triple at resolutions 0 to 7 in six orientations, random ones at 8 to 30, the looks of each
+// lookup beside the Rust's own, which are counted for it, nodes along random walks, points of every
+// magnitude and on every edge, points by exact fractions against integers that hold them, corner sums
+// both ways. Prints a line for each part; the first difference of a part is shown, and the program then
+// ends with status 1.
 mod coordinate_systems;
 mod exact;
 mod haspbarley;
 mod lattice;
+mod looks;
 mod shared;
 
 use coordinate_systems::IJ;
@@ -15,6 +17,7 @@ use lattice::curve::round_to_triple;
 use lattice::lsystem::{ab_to_triple, curve_child, s_to_cell, triple_to_ab, triple_to_curve_node, CurveNode};
 use lattice::triple::triple_in_bounds;
 use lattice::types::Triple;
+use looks::Lookups;
 use shared::{moved, Part, Random, ORIENTATIONS};
 
 const MANY: u64 = 10_000_000;
@@ -29,23 +32,13 @@ fn cell(part: &mut Part, o: usize, r: u8, s: u64) -> Triple {
     c.triple
 }
 
-// The looks, which the Rust takes and does not count: its picks are one a level above the last, and it compares
-// leaves in the axiom's order, which VU, WU and VW walk from the other end.
-fn looks(o: usize, r: u8, s: u64) -> [u64; 2] {
-    if r == 0 {
-        return [0, 0];
-    }
-    let last = if [1, 3, 4].contains(&o) { 3 - s % 4 } else { s % 4 };
-    [r as u64 - 1, last + 1]
-}
-
-fn position(part: &mut Part, o: usize, r: u8, t: &Triple) {
+fn position(part: &mut Part, lookups: &Lookups, o: usize, r: u8, t: &Triple) {
     let (s, flavor) = shared::position(o, r, t);
-    let [picks, comparisons] = looks(o, r, s);
+    let [picks, comparisons] = lookups.count(o, r, t);
     part.same(format_args!("position {o} {r} {t:?}"), haspbarley::position(o as u8, r, at(t)), Ok([s, flavor as u64, picks, comparisons]));
 }
 
-fn every(all: &mut u64) {
+fn every(all: &mut u64, lookups: &Lookups) {
     let mut cells = Part::new("every position, r 0 to 7");
     let mut positions = Part::new("every cell, r 0 to 7");
     let mut bounds = Part::new("every triple near by, r 0 to 7");
@@ -53,7 +46,7 @@ fn every(all: &mut u64) {
         for o in 0..6 {
             for s in 0..1u64 << (2 * r) {
                 let t = cell(&mut cells, o, r, s);
-                position(&mut positions, o, r, &t);
+                position(&mut positions, lookups, o, r, &t);
             }
         }
         // in bounds exactly when the Rust says so: refused otherwise
@@ -72,14 +65,14 @@ fn every(all: &mut u64) {
     bounds.done(all);
 }
 
-fn random(all: &mut u64, random: &mut Random) {
+fn random(all: &mut u64, lookups: &Lookups, random: &mut Random) {
     let mut cells = Part::new("random positions, r 8 to 30");
     let mut positions = Part::new("random cells, r 8 to 30");
     for _ in 0..MANY {
         let (o, r) = (random.below(6) as usize, 8 + random.below(23) as u8);
         let s = random.below(1 << (2 * r));
         let t = cell(&mut cells, o, r, s);
-        position(&mut positions, o, r, &t);
+        position(&mut positions, lookups, o, r, &t);
     }
     cells.done(all);
     positions.done(all);
@@ -189,8 +182,9 @@ fn corners(all: &mut u64, random: &mut Random) {
 fn main() {
     let mut differed = 0;
     let mut source = Random(0x9E3779B97F4A7C15);
-    every(&mut differed);
-    random(&mut differed, &mut source);
+    let lookups = Lookups::new();
+    every(&mut differed, &lookups);
+    random(&mut differed, &lookups, &mut source);
     nodes(&mut differed, &mut source);
     points(&mut differed, &mut source);
     exact::exact(&mut differed, &mut source);
