@@ -1,10 +1,10 @@
 -- A5's text is accepted, and the compiler's table of it is the one that the code has: both definitions are computed.
 use mathlib.Core.Path.{_≡_, refl, ap, _∙_}
-use mathlib.Core.List.{List, _++_}
-use Prim.Native.Nat.{ℕ, _*_, _≤_}
+use mathlib.Core.List.{List}
+use Prim.Native.Nat.{ℕ, _+_, _*_, _≤_}
 use native.Mathlib.Omega.{arith}
 use lib.IntN.{ℤ}
-use lib.ListN.{length, drop}
+use lib.ListN.{length}
 use Rattle.turtle.specs.Plane.{origin, _⊕_, neg, rot, rots, signed, thrice, facing, flipped}
 use Rattle.turtle.specs.Letters.{toggled, letters, strokeOf}
 use Rattle.turtle.specs.Walk.{symbolOf, symbolsOf, move, corner, turnedFlavor, cell, cells, final}
@@ -20,7 +20,8 @@ use Rattle.tables.specs.Children.{childrenAlong, children, offsetAfter, offset,
 use Rattle.tables.specs.Classifier.{footprint, hullOf, placedHull, polygon, classes}
 use Rattle.tables.specs.Table.{stateOf, stateRow, tableOf}
 use Rattle.tables.specs.Verdicts.{badSplit, splitTests, verdict}
-use Rattle.tables.specs.Compiler.{states, tableFor, compiledTo, afterCompile}
+use Rattle.tables.specs.Compiler.{states, stateCount, compiledTo, afterCompile}
+use Rattle.tables.specs.Parts.{withPart}
 use Rattle.tables.proofs.Entries.{length-table}
 use Rattle.tables.proofs.CompileDetermined.{compiled-states, compiled-table}
 use Rattle.a5.specs.A5.{a5Text}
@@ -36,19 +37,20 @@ a5-accepted = computed .0
 pub a5-table-is : tableOf (linesOf a5Text) ≡ a5Table
 a5-table-is = computed .1
 
--- ---- so the compiler, on A5's text, writes A5's table: 28 states, and behind them what was there
-module _ (table : List ℤ) (room : 1148 ≤ length table) where
+-- ---- so the compiler, on A5's text, writes A5's table from any entry on: 28 states, and outside them what was there
+module _ (table : List ℤ) (start : ℕ) (room : start + 1148 ≤ length table) where
   long : length a5Table ≡ 1148
   unfolding a5Table
   long = refl
 
-  fits : length (tableFor a5Text) ≤ length table
-  fits = omega (arith, ap length a5-table-is, long)
+  count : stateCount a5Text ≡ 28
+  count = omega (arith, length-table (linesOf a5Text), ap length a5-table-is, long)
 
-  pub a5-states : compiledTo a5Text table ≡ states 28
-  a5-states =
-      let tokens : 2 * length (tokenBytes (linesOf a5Text)) ≡ 28 = omega (arith, length-table (linesOf a5Text), ap length a5-table-is, long) in
-      compiled-states a5Text a5-accepted table fits ∙ ap states tokens
+  fits : start + 41 * stateCount a5Text ≤ length table
+  fits = omega (arith, count)
 
-  pub a5-compiled : afterCompile a5Text table ≡ a5Table ++ drop 1148 table
-  a5-compiled = compiled-table a5Text a5-accepted table fits ∙ (rw (a5-table-is, long) refl)
+  pub a5-states : compiledTo a5Text table start ≡ states 28
+  a5-states = compiled-states a5Text a5-accepted table start fits ∙ ap states count
+
+  pub a5-compiled : afterCompile a5Text table start ≡ withPart table start a5Table
+  a5-compiled = compiled-table a5Text a5-accepted table start fits ∙ ap (withPart table start) a5-table-is

@@ -4,7 +4,7 @@ use mathlib.Core.List.{List}
 use Prim.Native.Nat.{ℕ}
 use lib.IntN.{ℤ, natAbs}
 use Rattle.triple.proofs.Determined.{one-to-one, determined, numbered, answerOf}
-use Rattle.tables.specs.Descent.{Leaf, descentOf}
+use Rattle.tables.specs.Descent.{Leaf, descentIn}
 use Rattle.descent.specs.declared.DescentAnswer.{DescentAnswer}
 use Rattle.descent.specs.Answers.{saidDescent}
 
@@ -18,6 +18,6 @@ descent-back (DescentAnswer.Refused e) = ap DescentAnswer.Refused (numbered e)
 pub said-descent-one-to-one : (a b : DescentAnswer) → saidDescent a ≡ saidDescent b → a ≡ b
 said-descent-one-to-one = one-to-one saidDescent (answerOf cellIn DescentAnswer.Refused) descent-back
 
-pub descent-determined : (t : List ℤ) (states r token s : ℕ) (a b : DescentAnswer)
-    → saidDescent a ≡ descentOf t states r token s → saidDescent b ≡ descentOf t states r token s → a ≡ b
-descent-determined t states r token s = determined saidDescent said-descent-one-to-one
+pub descent-determined : (table : List ℤ) (start states r token s : ℕ) (a b : DescentAnswer)
+    → saidDescent a ≡ descentIn table start states r token s → saidDescent b ≡ descentIn table start states r token s → a ≡ b
+descent-determined table start states r token s = determined saidDescent said-descent-one-to-one

@@ -7,21 +7,22 @@ use Prim.Native.Nat.{ℕ, zero, suc, _+_, _-_, _*_, _%_, _/_, _^_, _<_, _≤_}
 use native.Mathlib.Nat as N
 use native.Mathlib.Omega.{arith}
 use native.Mathlib.Decide.{decLt}
-use borrow.Author.Tests.{le-leb, lt-leb, lt-ltb, le-ltb, eq-eqb, ne-eqb, not-true, not-false}
+use borrow.Author.Tests.{le-leb, lt-leb, lt-ltb, le-ltb, eq-eqb, ne-eqb, ltb-false, not-true, not-false}
 use lib.Dec.{T, leb, ltb, eqb, leb→le, ltb→lt}
 use lib.IntN.{ℤ, pos, natAbs, _+ℤ_, _*ℤ_}
 use lib.Signed.{nonNeg}
-use lib.ListN.{length}
+use lib.ListN.{length, take, drop, length-take, length-drop}
 use mir.Syntax.{Width, w64}
 use mir.Val.{toZ, ofZ, Fits, bits}
 use Rattle.whole.proofs.Powers.{four-by-shift}
 use Rattle.whole.proofs.Bools.{both-left, both-right, from-true}
 use Rattle.whole.proofs.View.{v-abs, v-add, v-mul, kept}
 use Rattle.triple.specs.declared.refusal.Refusal.the-variants as Is
-use Rattle.triple.specs.Refusals.{told, refused, numberOf}
+use Rattle.triple.specs.Refusals.{Told, told, refused, numberOf}
 use Rattle.turtle.specs.declared.AB.{AB}
 use Rattle.turtle.specs.Plane.{ab, origin, _⊕_, thrice, doubled}
-use Rattle.tables.specs.Descent.{Leaf, entry, childAt, offsetAt, flavorAt, follow, allBelow, readableState, goodCount, goodTable, descentOf}
+use Rattle.tables.specs.Descent.{Leaf, entry, childAt, offsetAt, flavorAt, follow, allBelow, readableState, goodCount, goodTable, descentOf, descentIn}
+use Rattle.tables.specs.Parts.{partOf, isPast}
 use Rattle.tables.proofs.ReadableLaws.{below-at, child-readable, flavor-readable, Readable, state-readable}
 use Rattle.tables.proofs.HornerLaws.{twice-place, follow-twice, twice-size, room-twice, room-now}
 use Rattle.descent.specs.declared.level.LevelState.{LevelState}
@@ -175,26 +176,20 @@ module _ (t : List ℤ) (states token : ℕ) {b : Bool} (e : b ≡ goodTable t s
   passed : T (goodTable t states token)
   passed = from-true (sym e ∙ not-false b h)
 
-  parts : T (goodCount t states) × T (ltb token (states / 2)) × T (allBelow (readableState t states) states)
+  parts : T (goodCount states) × T (ltb token (states / 2)) × T (allBelow (readableState t states) states)
   unfolding goodTable
   parts =
-      let front = both-left (goodCount t states && ltb token (states / 2)) (allBelow (readableState t states) states) passed in
-      (both-left (goodCount t states) (ltb token (states / 2)) front, both-right (goodCount t states) (ltb token (states / 2)) front, both-right (goodCount t states && ltb token (states / 2)) (allBelow (readableState t states) states) passed)
+      let front = both-left (goodCount states && ltb token (states / 2)) (allBelow (readableState t states) states) passed in
+      (both-left (goodCount states) (ltb token (states / 2)) front, both-right (goodCount states) (ltb token (states / 2)) front, both-right (goodCount states && ltb token (states / 2)) (allBelow (readableState t states) states) passed)
 
   few : states ≤ 32
-  few =
-      let a = both-left (leb 4 states && leb states 32 && eqb (states % 4) 0) (leb (41 * states) (length t)) (parts .0) in
-      let c = both-left (leb 4 states && leb states 32) (eqb (states % 4) 0) a in
-      leb→le states 32 (both-right (leb 4 states) (leb states 32) c)
-
-  held : 41 * states ≤ length t
-  held = leb→le (41 * states) (length t) (both-right (leb 4 states && leb states 32 && eqb (states % 4) 0) (leb (41 * states) (length t)) (parts .0))
+  few = leb→le states 32 (both-right (leb 4 states) (leb states 32) (both-left (leb 4 states && leb states 32) (eqb (states % 4) 0) (parts .0)))
 
   pub token-below : token < 16
   token-below = omega (arith, few, ltb→lt token (states / 2) (parts .1))
 
-  pub token-known : Known t (2 * token)
-  token-known = record { states = states; below = omega (arith, ltb→lt token (states / 2) (parts .1)); few = few; held = held; readable = parts .2 }
+  pub token-known : 41 * states ≤ length t → Known t (2 * token)
+  token-known held = record { states = states; below = omega (arith, ltb→lt token (states / 2) (parts .1)); few = few; held = held; readable = parts .2 }
 
 -- ---- the answer, test by test
 module _ (r s : ℕ) where
@@ -233,3 +228,36 @@ module _ (t : List ℤ) (states r token s : ℕ) where
         pub place-drawn : s / 2 ^ (2 * r) ≤ 0 → {l : Leaf} → l ≡ follow t (r - 1) origin (2 * token) s → told l ≡ descentOf t states r token s
         unfolding descentOf
         place-drawn h f = rw (ne-eqb r 0 some, le-ltb 30 r few-passes, sym e ∙ not-false b good, lt-leb (4 ^ r) s (within r s h)) (ap told f)
+
+-- ---- a part of a table, and then what is told of the part
+module _ (table : List ℤ) (start states r token s : ℕ) {b : Bool} (e : b ≡ isPast (length table) start states) where
+  pub part-past : b ≡ true → refused (numberOf Is.Part) ≡ descentIn table start states r token s
+  unfolding descentIn
+  part-past h = rw (sym e ∙ h)
+
+  module _ (within : b ≡ false) where
+    pub end-within : start + 41 * states ≤ length table
+    end-within = ltb-false (length table) (start + 41 * states) (sym e ∙ within)
+
+    -- so nothing overflows, as a table's bytes can be counted
+    module _ (small : length table * 4 < 2 ^ 63) where
+      pub numbers-fit : Fits w64 (41 * states)
+      numbers-fit = record { fits = omega (arith, end-within) }
+
+      pub end-fits : Fits w64 (start + 41 * states)
+      end-fits = record { fits = omega (arith, end-within) }
+
+      pub start-fits : Fits w64 (start * 4)
+      start-fits = record { fits = omega (arith, end-within) }
+
+    lent-part : take (start + 41 * states - start) (drop start table) ≡ partOf table start states
+    lent-part = let n : start + 41 * states - start ≡ 41 * states = omega arith in ap (λ n. take n (drop start table)) n
+
+    pub part-held : 41 * states ≤ length (take (start + 41 * states - start) (drop start table))
+    part-held = rw (lent-part, length-take, length-drop) (omega (arith, end-within))
+
+    pub part-told : {a : Told Leaf} → a ≡ descentOf (take (start + 41 * states - start) (drop start table)) states r token s → a ≡ descentIn table start states r token s
+    unfolding descentIn
+    part-told f = f ∙ (rw (lent-part, sym e ∙ within) refl)
+
+pub ruleset by-part = (part-past, end-within, numbers-fit, end-fits, start-fits, part-held, part-told)

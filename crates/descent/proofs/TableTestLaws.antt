@@ -137,15 +137,12 @@ module _ (t : List ℤ) (states token : ℕ) where
       table-odd h = rw (le-leb 4 states some, le-leb states 32 few, ne-eqb (states % 4) 0 h)
 
       module _ (fours : states % 4 ≡ 0) where
-        pub table-short : length t < 41 * states → false ≡ goodTable t states token
+        pub table-token : states / 2 ≤ token → false ≡ goodTable t states token
         unfolding goodTable
-        table-short h = rw (le-leb 4 states some, le-leb states 32 few, eq-eqb (states % 4) 0 fours, lt-leb (41 * states) (length t) h)
+        table-token h = rw (le-leb 4 states some, le-leb states 32 few, eq-eqb (states % 4) 0 fours, le-ltb token (states / 2) h)
 
-        module _ (held : 41 * states ≤ length t) where
-          pub table-token : states / 2 ≤ token → false ≡ goodTable t states token
-          unfolding goodTable
-          table-token h = rw (le-leb 4 states some, le-leb states 32 few, eq-eqb (states % 4) 0 fours, le-leb (41 * states) (length t) held, le-ltb token (states / 2) h)
+        pub table-states : token < states / 2 → {b : Bool} → b ≡ allBelow (readableState t states) states → b ≡ goodTable t states token
+        unfolding goodTable
+        table-states h e = rw (le-leb 4 states some, le-leb states 32 few, eq-eqb (states % 4) 0 fours, lt-ltb token (states / 2) h) e
 
-          pub table-states : token < states / 2 → {b : Bool} → b ≡ allBelow (readableState t states) states → b ≡ goodTable t states token
-          unfolding goodTable
-          table-states h e = rw (le-leb 4 states some, le-leb states 32 few, eq-eqb (states % 4) 0 fours, le-leb (41 * states) (length t) held, lt-ltb token (states / 2) h) e
+pub ruleset by-table = (table-few, table-many, table-odd, table-token, table-states)

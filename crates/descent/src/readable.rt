@@ -104,6 +104,7 @@ fn readable_states(table: &[i32], states: usize) -> bool
 }
 
 pub(crate) fn is_good_table(table: &[i32], states: usize, token: usize) -> bool
+    requires { ⌜ 41 * states ≤ length (now table) ⌝ }
     ensures { λ b. ⌜ b ≡ goodTable (now (table .entry)) states token ⌝ }
 {
     if states < 4 {
@@ -113,9 +114,6 @@ pub(crate) fn is_good_table(table: &[i32], states: usize, token: usize) -> bool
         return false;
     }
     if states % 4 != 0 {
-        return false;
-    }
-    if 41 * states > table.len() {
         return false;
     }
     if token >= states / 2 {

@@ -1,5 +1,5 @@
--- A SECOND OPINION: entries 4 s to 4 s + 3 are the cell that s names, which is what the descent over A5's table, as the compiler leaves it in any lent
--- table with room, gives at s; and no entry past the last cell is touched.
+-- A SECOND OPINION: entries 4 s to 4 s + 3 are the cell that s names, which is what the descent over A5's table, as the compiler leaves it in any
+-- part of a lent table, gives at s; and no entry past the last cell is touched.
 use mathlib.Core.Path.{_≡_, refl, sym, ap, _∙_, subst}
 use mathlib.Core.Bool.{cond}
 use mathlib.Core.List.{List, [], _∷_, _++_, append-assoc}
@@ -19,13 +19,12 @@ use Rattle.triple.proofs.LentLaws.{whole-count, whole-stored}
 use Rattle.triple.proofs.OrientationLaws.{six, place-small}
 use Rattle.grammar.specs.Curves.{drawing}
 use Rattle.tables.specs.Children.{noCell}
-use Rattle.tables.specs.Compiler.{tableFor, afterCompile}
-use Rattle.tables.specs.Descent.{Leaf, descentOf}
+use Rattle.tables.specs.Compiler.{stateCount, afterCompile}
+use Rattle.tables.specs.Descent.{descentIn}
 use Rattle.tables.specs.Table.{leafOf, flavorNumber}
 use Rattle.tables.proofs.CompileDetermined.{compiled-draws}
 use Rattle.a5.specs.A5.{a5Text, a5}
-use Rattle.a5.specs.A5Table.{a5Table}
-use Rattle.a5.proofs.A5Compiled.{a5-accepted, a5-table-is}
+use Rattle.a5.proofs.A5Compiled.{a5-accepted}
 use Rattle.a5.proofs.Axioms.{token, drawn}
 use Rattle.a5.proofs.Once.{cell-flavor}
 use Rattle.lsystem.specs.declared.cell.Cell.{Cell}
@@ -96,31 +95,31 @@ token-is : (o : ℕ) → o ≤ 5 → axiomMotif o ≡ token (axiomIn o)
 unfolding axiomMotif axiomIn
 token-is = six (λ o. axiomMotif o ≡ token (axiomIn o)) refl refl refl refl refl refl
 
-module _ (table : List ℤ) (holds : 1148 ≤ length table) (o n : ℕ) (h : o ≤ 5) (k : n ≤ 29) (s : ℕ) (l : s < 4 ^ suc n) where
-  fits : length (tableFor a5Text) ≤ length table
-  unfolding a5Table
-  fits = omega (arith, ap length a5-table-is)
+module _ (table : List ℤ) (start : ℕ) (holds : start + 1148 ≤ length table) (o n : ℕ) (h : o ≤ 5) (k : n ≤ 29) (s : ℕ) (l : s < 4 ^ suc n) where
+  fits : start + 41 * stateCount a5Text ≤ length table
+  unfolding a5
+  fits = omega (arith, tokens)
 
-  leaf-told : descentOf (afterCompile a5Text table) 28 (suc n) (axiomMotif o) (curvePlace o (suc n) s) ≡ told (leafOf (drawnCell o (suc n) s))
+  leaf-told : descentIn (afterCompile a5Text table start) start 28 (suc n) (axiomMotif o) (curvePlace o (suc n) s) ≡ told (leafOf (drawnCell o (suc n) s))
   unfolding a5 drawnCell
   leaf-told =
-      ap (λ m. descentOf (afterCompile a5Text table) 28 (suc n) m (curvePlace o (suc n) s)) (token-is o h)
-      ∙ ap (λ m. descentOf (afterCompile a5Text table) (2 * m) (suc n) (token (axiomIn o)) (curvePlace o (suc n) s)) (sym tokens)
-      ∙ compiled-draws a5Text a5-accepted table fits (suc n) (token (axiomIn o)) (curvePlace o (suc n) s) (omega arith) (omega arith) (subst (λ m. token (axiomIn o) < m) (sym tokens) (token-small (axiomIn o))) (place-small o (suc n) s l)
+      ap (λ m. descentIn (afterCompile a5Text table start) start 28 (suc n) m (curvePlace o (suc n) s)) (token-is o h)
+      ∙ ap (λ m. descentIn (afterCompile a5Text table start) start (2 * m) (suc n) (token (axiomIn o)) (curvePlace o (suc n) s)) (sym tokens)
+      ∙ compiled-draws a5Text a5-accepted table start fits (suc n) (token (axiomIn o)) (curvePlace o (suc n) s) (omega arith) (omega arith) (subst (λ m. token (axiomIn o) < m) (sym tokens) (token-small (axiomIn o))) (place-small o (suc n) s l)
       ∙ ap (λ b. told (leafOf (getD (drawing a5 (suc n) b) (curvePlace o (suc n) s) noCell))) (axiom-letter o h)
 
   flavor-is : flavorNumber (drawnCell o (suc n) s .flavor) ≡ pos (closedFlavor (suc n) (cellIn o n s h l))
   flavor-is = sym (ap (λ c. c .flavor) (drawn-follow o n s h l)) ∙ cell-flavor (axiomIn o) n (curvePlace o (suc n) s)
 
-  descended-told : descended (afterCompile a5Text table) o (suc n) s ≡ told (cellValues (cellOn (suc n) (cellIn o n s h l)))
+  descended-told : descended (afterCompile a5Text table start) start o (suc n) s ≡ told (cellValues (cellOn (suc n) (cellIn o n s h l)))
   unfolding descended
   descended-told = rw (leaf-told, drawn-triple o n s h k l, moved-back o h (suc n) (cellIn o n s h l), flavor-is) refl
 
 -- place by place
-pub draw-is-descent : (o r : ℕ) → Drawable o r → (out : List ℤ) → 4 * 4 ^ r ≤ length out → (table : List ℤ) → 1148 ≤ length table → (s : ℕ) → s < 4 ^ r
-    → descended (afterCompile a5Text table) o r s ≡ told (take 4 (drop (4 * s) (afterCall (drawCall o r) out)))
-draw-is-descent o zero ask out room table holds s l = absurd (omega (arith, ask .some))
-draw-is-descent o (suc n) ask out room table holds s l =
+pub draw-is-descent : (o r : ℕ) → Drawable o r → (out : List ℤ) → 4 * 4 ^ r ≤ length out → (table : List ℤ) (start : ℕ) → start + 1148 ≤ length table → (s : ℕ) → s < 4 ^ r
+    → descended (afterCompile a5Text table start) start o r s ≡ told (take 4 (drop (4 * s) (afterCall (drawCall o r) out)))
+draw-is-descent o zero ask out room table start holds s l = absurd (omega (arith, ask .some))
+draw-is-descent o (suc n) ask out room table start holds s l =
     let h = ask .oriented in
     let k : n ≤ 29 = omega (arith, ask .shallow) in
-    descended-told table holds o n h k s l ∙ ap told (sym (draw-cells o (suc n) ask out room s (cellOn (suc n) (cellIn o n s h l)) l (cell-told o n h k s l)))
+    descended-told table start holds o n h k s l ∙ ap told (sym (draw-cells o (suc n) ask out room s (cellOn (suc n) (cellIn o n s h l)) l (cell-told o n h k s l)))

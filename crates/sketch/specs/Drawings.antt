@@ -9,7 +9,7 @@ use Rattle.triple.specs.Refusals.{Told, told, refuse, _>>=_}
 use Rattle.triple.specs.Domain.{inOrientation}
 use Rattle.triple.specs.Orientations.{axiomMotif, curvePlace, shifted}
 use Rattle.turtle.specs.Corners.{tripleOf}
-use Rattle.tables.specs.Descent.{descentOf}
+use Rattle.tables.specs.Descent.{descentIn}
 use Rattle.lsystem.specs.Cells.{cellOf, cellValues}
 
 -- the cells that n positions from s on name, one after the other: x y z flavor of each
@@ -28,9 +28,9 @@ drawCall o r =
     (cellsFrom o r (4 ^ r) 0))
 
 -- ---- the other opinion
--- the cell that a descent over a table of A5's 28 states gives at s: its triple, moved as the orientation has it, and its flavor
-unfoldable pub descended : List ℤ → ℕ → ℕ → ℕ → Told (List ℤ)
-descended table o r s = do
-  leaf ← descentOf table 28 r (axiomMotif o) (curvePlace o r s)
+-- the cell that a descent in the part of a table that has A5's 28 states gives at s: its triple, moved as the orientation has it, and its flavor
+unfoldable pub descended : List ℤ → ℕ → ℕ → ℕ → ℕ → Told (List ℤ)
+descended table start o r s = do
+  leaf ← descentIn table start 28 r (axiomMotif o) (curvePlace o r s)
   t ← tripleOf (leaf .sum)
   let u = shifted o r t in told (u .x ∷ u .y ∷ u .z ∷ leaf .flavor ∷ [])

@@ -1,14 +1,14 @@
--- A COMPILED TABLE DESCENDS: of every text that is accepted, the descent over its table, with anything behind it, answers the cell at each place
--- of the drawing, and refuses nothing: the table is readable, as its children are tokens, its numbers small and its flavors 0 to 3.
-use mathlib.Core.Path.{_≡_, sym, ap, _∙_, subst}
+-- A COMPILED TABLE DESCENDS: of every text that is accepted, the descent over its table answers the cell at each place of the drawing, and refuses
+-- nothing: the table is readable, as its children are tokens, its numbers small and its flavors 0 to 3.
+use mathlib.Core.Path.{_≡_, sym, ap, subst}
 use mathlib.Core.Bool.{Bool, true, false}
-use mathlib.Core.List.{List, _++_}
+use mathlib.Core.List.{List}
 use Prim.Native.Nat.{ℕ, zero, suc, _+_, _-_, _*_, _/_, _%_, _^_, _<_, _≤_}
 use native.Mathlib.Omega.{arith}
 use native.Mathlib.Decide.{decLt}
 use borrow.Author.Tests.{le-leb, lt-leb, le-ltb, lt-ltb, eq-eqb, ne-eqb}
 use lib.Dec.{T, le→leb, ltb→lt}
-use lib.IntN.{ℤ, natAbs}
+use lib.IntN.{natAbs}
 use lib.ListN.{length, getD}
 use Rattle.whole.proofs.Bools.{is-true}
 use Rattle.triple.specs.Refusals.{told}
@@ -25,12 +25,11 @@ use Rattle.tables.specs.Children.{child, offset, leaf, noCell}
 use Rattle.tables.specs.Table.{bit, stateOf, flavorNumber, leafOf, tableOf}
 use Rattle.tables.specs.Descent.{entry, childAt, flavorAt, readableChild, readableFlavor, allBelow, readableState, goodTable, descentOf}
 use Rattle.tables.specs.Verdicts.{splitTests, verdict}
-use Rattle.tables.proofs.Entries.{length-table, child-entry, offset-entry, sum-entry, flavor-entry}
+use Rattle.tables.proofs.Entries.{child-entry, offset-entry, sum-entry, flavor-entry}
 use Rattle.tables.proofs.Follow.{child-bound}
 use Rattle.tables.proofs.Drawing.{descent-is-drawing}
 use Rattle.tables.proofs.SizeLaws.{small-abs, signed-small, offset-small, leaf-small, leaf-flavored}
 use Rattle.tables.proofs.ReadableLaws.{below-by, readable-child, readable-flavor, readable-state}
-use Rattle.tables.proofs.Front.{descent-front}
 
 -- a flavor that there is, as a table has it
 flavor-number : (f : Flavor) → T (isFlavor f) → T (readableFlavor (flavorNumber f))
@@ -117,17 +116,13 @@ module _ (text : List ℕ) (p : verdict text ≡ fine) where
         le-leb 4 states (omega arith),
         le-leb states 32 (omega arith),
         eq-eqb (states % 4) 0 (omega arith),
-        le-leb (41 * states) (length (tableOf ls)) (omega (arith, length-table ls)),
         lt-ltb m (states / 2) (omega arith),
       ) (sym (is-true (allBelow (readableState (tableOf ls) states) states) compiled-readable))
 
   -- ---- the theorem
-  pub compiled-descends : (rest : List ℤ) (r m s : ℕ) → 1 ≤ r → r ≤ 30 → m < tokens → s < 4 ^ r
-      → descentOf (tableOf ls ++ rest) states r m s ≡ told (leafOf (getD (drawing ls r (letterOf ls m)) s noCell))
-  compiled-descends rest zero m s h l b k = absurd (omega arith)
-  compiled-descends rest (suc r) m s h l b k = descent-front (tableOf ls) rest states (length-table ls) (suc r) m s ∙ alone
-    where
-      alone : descentOf (tableOf ls) states (suc r) m s ≡ told (leafOf (getD (drawing ls (suc r) (letterOf ls m)) s noCell))
-      alone = unfold descentOf in
-          let one : suc r - 1 ≡ r = omega arith in
-          rw (ne-eqb (suc r) 0 (omega arith), le-ltb 30 (suc r) l, compiled-good m b, lt-leb (4 ^ suc r) s k, one) (ap told (descent-is-drawing text p r m s b k))
+  pub compiled-descends : (r m s : ℕ) → 1 ≤ r → r ≤ 30 → m < tokens → s < 4 ^ r → descentOf (tableOf ls) states r m s ≡ told (leafOf (getD (drawing ls r (letterOf ls m)) s noCell))
+  unfolding descentOf
+  compiled-descends zero m s h l b k = absurd (omega arith)
+  compiled-descends (suc r) m s h l b k =
+      let one : suc r - 1 ≡ r = omega arith in
+      rw (ne-eqb (suc r) 0 (omega arith), le-ltb 30 (suc r) l, compiled-good m b, lt-leb (4 ^ suc r) s k, one) (ap told (descent-is-drawing text p r m s b k))

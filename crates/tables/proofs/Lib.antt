@@ -12,8 +12,6 @@ pub mod Drawing
 pub mod HornerLaws
 -- what a readable state's tests say
 pub mod ReadableLaws
--- what stands behind the stated states changes nothing
-pub mod Front
 -- ---- the table of an accepted text
 -- how large its numbers are
 pub mod SizeLaws
@@ -38,7 +36,12 @@ pub mod StateLaws
 pub mod UnsplitLaws
 -- the states written one after the other
 pub mod StateWriteLaws
+-- a part that is read back from a table, and what writing one leaves outside it
+pub mod PartLaws
 -- what the compiler answers
 pub mod CompilerLaws
 -- its contract allows one answer and one table alone
 pub mod CompileDetermined
+-- ---- parts of a table
+-- what stands outside a part is neither written nor looked at
+pub mod PartsAlone

@@ -10,6 +10,7 @@ use Rattle.triple.specs.declared.refusal.Refusal.the-variants as Is
 use Rattle.triple.specs.Refusals.{Told, told, refuse}
 use Rattle.turtle.specs.declared.AB.{AB}
 use Rattle.turtle.specs.Plane.{ab, origin, _⊕_, thrice, doubled}
+use Rattle.tables.specs.Parts.{partOf, isPast}
 
 -- entry j of state k
 unfoldable pub entry : List ℤ → ℕ → ℕ → ℤ
@@ -60,17 +61,21 @@ readableState t states k =
     && allBelow (λ j. readableSize (entry t k (4 + j))) 16
     && allBelow (λ d. readableFlavor (flavorAt t k d)) 4
 
--- a multiple of 4 from 4 to 32, and no more than the table holds
-abbrev pub goodCount : List ℤ → ℕ → Bool
-goodCount t states = leb 4 states && leb states 32 && eqb (states % 4) 0 && leb (41 * states) (length t)
+-- a multiple of 4 from 4 to 32
+abbrev pub goodCount : ℕ → Bool
+goodCount states = leb 4 states && leb states 32 && eqb (states % 4) 0
 
 unfoldable pub goodTable : List ℤ → ℕ → ℕ → Bool
-goodTable t states token = goodCount t states && ltb token (states / 2) && allBelow (readableState t states) states
+goodTable t states token = goodCount states && ltb token (states / 2) && allBelow (readableState t states) states
 
--- the table, its state count, the passes, a token and s
+-- the states' numbers, their count, the passes, a token and s
 unfoldable pub descentOf : List ℤ → ℕ → ℕ → ℕ → ℕ → Told Leaf
 descentOf t states r token s =
     refuse (eqb r 0 || ltb 30 r) Is.Resolution
     (refuse (not (goodTable t states token)) Is.Table
     (refuse (leb (4 ^ r) s) Is.Position
     (told (follow t (r - 1) origin (2 * token) s))))
+
+-- THE DESCENT in a part of a table, which is all that it looks at: 26, and then as over a table that has nothing else
+unfoldable pub descentIn : List ℤ → ℕ → ℕ → ℕ → ℕ → ℕ → Told Leaf
+descentIn table start states r token s = refuse (isPast (length table) start states) Is.Part (descentOf (partOf table start states) states r token s)

@@ -1,5 +1,6 @@
 pub mod Children
 pub mod Classifier
+pub mod Parts
 pub mod Descent
 pub mod Table
 pub mod Patterns

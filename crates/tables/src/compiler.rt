@@ -1,4 +1,4 @@
-// The compiler of a grammar's text: its tests, and its table into a lent slice.
+// The compiler of a grammar's text: its tests, and its table into a part of a lent slice.
 ghost use mathlib.Core.Path.{_≡_};
 ghost use mathlib.Core.List.{_++_};
 ghost use Prim.Native.Nat.{_+_, _*_, _/_, _%_, _≤_, _<_, min};
@@ -7,11 +7,12 @@ ghost use lib.ListN.{length, drop};
 ghost use Rattle.grammar.specs.Texts.{linesOf};
 ghost use Rattle.grammar.specs.Tests.{first};
 ghost use Rattle.grammar.specs.Inside.Places.{lineAt};
-ghost use Rattle.tables.specs.Compiler.{saidCompiled, compiledTo, afterCompile, tableFor};
+ghost use Rattle.tables.specs.Compiler.{saidCompiled, compiledIn, compiledTo, afterCompile, tableFor};
 ghost use Rattle.tables.specs.Inside.Sources.{Ready};
 ghost use Rattle.tables.specs.Table.{stateRow};
 ghost use Rattle.tables.specs.Verdicts.{badSplit};
 use crate::Source;
+use crate::parts::is_past;
 use crate::rows::write_numbers;
 use crate::states::parts_of;
 use crate::states::splits;
@@ -23,7 +24,7 @@ use grammar::tests::read_text;
 use triple::refusal::Refusal;
 
 // The number of states; or a refusal from 12 to 20 with the number of the line at fault; or that the
-// table is too short.
+// states' part is past the table.
 pub enum CompileAnswer {
     States(usize),
     Fault(Refusal, usize),
@@ -70,7 +71,7 @@ fn first_unsplit(text: &[u8], source: Source) -> usize
     0
 }
 
-// A state's numbers at the front of its part of the table.
+// A state's numbers at the front of its own part of the table.
 fn write_state(text: &[u8], source: Source, state: usize, part: &mut [i32])
     requires { ⌜ Ready (now text) source × ((state < 2 * source .count) × (41 ≤ length (now part))) ⌝ }
     ensures { λ _. ⌜ now (part .exit) ≡ stateRow (linesOf (now (text .entry))) (state / 2) (eqb (state % 2) 1) ++ drop 41 (now (part .entry)) ⌝ }
@@ -92,25 +93,43 @@ fn write_states(text: &[u8], source: Source, table: &mut [i32])
     }
 }
 
-// The table of a text that the tests 12 to 19 find no fault with.
-fn compile_source(text: &[u8], source: Source, table: &mut [i32]) -> CompileAnswer
+// What compiling a text into a table of `size` entries, from `start` on, answers, where the tests 12 to
+// 19 find no fault with the text.
+fn judge_source(text: &[u8], source: Source, size: usize, start: usize) -> CompileAnswer
     requires { ⌜ Ready (now text) source ⌝ }
-    ensures { λ a. ⌜ (saidCompiled a ≡ compiledTo (now (text .entry)) (now (table .entry))) × (now (table .exit) ≡ afterCompile (now (text .entry)) (now (table .entry))) ⌝ }
+    ensures { λ a. ⌜ saidCompiled a ≡ compiledIn (now (text .entry)) size start ⌝ }
 {
     let line = first_unsplit(text, source);
     if line != 0 {
         return CompileAnswer::Fault(Refusal::Split, line);
     }
-    if table.len() < 82 * source.count {
-        return CompileAnswer::Refused(Refusal::Room);
+    let states = 2 * source.count;
+    if is_past(size, start, states) {
+        return CompileAnswer::Refused(Refusal::Part);
     }
-    write_states(text, source, table);
-    CompileAnswer::States(2 * source.count)
+    CompileAnswer::States(states)
 }
 
-// Tests a grammar's text, and writes its table at the front of what is lent.
-pub fn compile_grammar(text: &[u8], table: &mut [i32]) -> CompileAnswer
-    ensures { λ a. ⌜ (saidCompiled a ≡ compiledTo (now (text .entry)) (now (table .entry))) × (now (table .exit) ≡ afterCompile (now (text .entry)) (now (table .entry))) ⌝ }
+// That answer, and the states in their part of the table.
+fn compile_source(text: &[u8], source: Source, table: &mut [i32], start: usize) -> CompileAnswer
+    requires { ⌜ Ready (now text) source ⌝ }
+    ensures { λ a. ⌜ (saidCompiled a ≡ compiledTo (now (text .entry)) (now (table .entry)) start) × (now (table .exit) ≡ afterCompile (now (text .entry)) (now (table .entry)) start) ⌝ }
+{
+    let answer = judge_source(text, source, table.len(), start);
+    match answer {
+        CompileAnswer::States(states) => {
+            write_states(text, source, &mut table[start..]);
+            CompileAnswer::States(states)
+        }
+        CompileAnswer::Fault(e, line) => CompileAnswer::Fault(e, line),
+        CompileAnswer::Refused(e) => CompileAnswer::Refused(e),
+    }
+}
+
+// What compiling a grammar's text into a table of `size` entries, from `start` on, would answer. Nothing
+// is written.
+pub fn judge_grammar(text: &[u8], size: usize, start: usize) -> CompileAnswer
+    ensures { λ a. ⌜ saidCompiled a ≡ compiledIn (now (text .entry)) size start ⌝ }
 {
     let read = read_text(text);
     let answer = read.answer;
@@ -118,5 +137,18 @@ pub fn compile_grammar(text: &[u8], table: &mut [i32]) -> CompileAnswer
         return CompileAnswer::Fault(e, line);
     }
     let lines = read.lines;
-    compile_source(text, source_of(lines), table)
+    judge_source(text, source_of(lines), size, start)
+}
+
+// Tests a grammar's text, and writes its table from entry `start` of what is lent.
+pub fn compile_grammar(text: &[u8], table: &mut [i32], start: usize) -> CompileAnswer
+    ensures { λ a. ⌜ (saidCompiled a ≡ compiledTo (now (text .entry)) (now (table .entry)) start) × (now (table .exit) ≡ afterCompile (now (text .entry)) (now (table .entry)) start) ⌝ }
+{
+    let read = read_text(text);
+    let answer = read.answer;
+    if let TextAnswer::Fault(e, line) = answer {
+        return CompileAnswer::Fault(e, line);
+    }
+    let lines = read.lines;
+    compile_source(text, source_of(lines), table, start)
 }

@@ -10,6 +10,7 @@ mod children;
 pub mod compiler;
 mod frames;
 mod leaves;
+pub mod parts;
 mod rows;
 mod states;
 mod tokens;
