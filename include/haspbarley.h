@@ -79,11 +79,11 @@ enum {
     HB_PASSES = 23,     /* resolution 0 or above 6 in a drawing */
     HB_SPARE = 24,      /* a code whose spare bits are not zero */
     HB_ORDER = 25,      /* positions or cells out of order */
+    HB_PART = 26,       /* a part of a table that starts or ends past it */
     HB_POLYGON = 27,    /* text that is no cell's polygon, or not in its spelling */
     HB_RETIRED = 28,    /* a code to be written for VU, WU or VW */
 
     /* of operations to come: no function of this version returns them */
-    HB_PART = 26,       /* a part of a table that starts or ends past it */
     HB_LONG = 29        /* more codes than are checked at once */
 };
 
@@ -203,23 +203,27 @@ uint8_t hb_mend_step(const uint8_t *rest, size_t rest_len, uint8_t *out, size_t 
  * Values: the answer to text, and its length (1) to out; both or, on a refusal, neither. Refusals: 10. */
 uint8_t hb_line(const uint8_t *line, size_t line_len, uint8_t *text, size_t text_len, uint64_t *out, size_t out_len);
 
-/* The cell at place s, below 4^passes, of what a table gives from a token after 1 to 30 passes. The
- * table has HB_STATE_NUMBERS for each state, in state order: 4 child states, 4 offset pairs, 4 leaf
- * sums (pairs), 4 flavors, and 17 that a descent does not look at. It may be anyone's: states has to be
- * a multiple of 4 from 4 to 32 and no more than the table holds, token below half of it, and in every
- * state each child state below states, each flavor 0 to 3, each offset and leaf sum at most 4096 in
- * size; all else is 22.
- * Values: a b flavor (3), the cell's corner sum and flavor. Refusals: 1 (also at 0 passes), 22, 3, 10. */
-uint8_t hb_descend(const int32_t *table, size_t table_len, uint64_t states, uint8_t passes, uint64_t token, uint64_t s,
-                   int64_t *out, size_t out_len);
+/* The cell at place s, below 4^passes, of what a part of a table gives from a token after 1 to 30
+ * passes. The part begins at entry start of the table and has HB_STATE_NUMBERS for each of its states,
+ * in state order: 4 child states, 4 offset pairs, 4 leaf sums (pairs), 4 flavors, and 17 that a descent
+ * does not look at, nor at anything outside the part; where start, or start + HB_STATE_NUMBERS * states,
+ * is past the table, that is 26. The part may be anyone's: states has to be a multiple of 4 from 4 to
+ * 32, token below half of it, and in every state each child state below states, each flavor 0 to 3, each
+ * offset and leaf sum at most 4096 in size; all else is 22.
+ * Values: a b flavor (3), the cell's corner sum and flavor. Refusals: 26, 1 (also at 0 passes), 22, 3, 10. */
+uint8_t hb_descend(const int32_t *table, size_t table_len, uint64_t start, uint64_t states, uint8_t passes,
+                   uint64_t token, uint64_t s, int64_t *out, size_t out_len);
 
 /* Compiles a grammar's text: one to eight lines, each a motif letter, its rule and its draw, set apart
- * by single spaces and ended by LF. A table of HB_TABLE_NUMBERS has room for every text.
- * Values: each state's numbers to table, in state order, and the number of states (1) to out; both or,
- * on a refusal, neither. What it returns has the refusal's number in the low byte and, of 12 to 20, the
- * number of the line at fault in the high byte, from 1, or 0 of the empty text.
- * Refusals: 12 to 20, 10. */
-uint16_t hb_compile(const uint8_t *text, size_t text_len, int32_t *table, size_t table_len, uint64_t *out, size_t out_len);
+ * by single spaces and ended by LF. HB_TABLE_NUMBERS entries from start on are room for every text, and
+ * HB_STATE_NUMBERS for each state are what is written: grammars that share a table keep theirs where
+ * their parts do not overlap.
+ * Values: each state's numbers to table, in state order, from entry start on, and the number of states
+ * (1) to out; both or, on a refusal, neither. What it returns has the refusal's number in the low byte
+ * and, of 12 to 20, the number of the line at fault in the high byte, from 1, or 0 of the empty text.
+ * Refusals: 12 to 20, 26 (start, or the last state's end, past the table), 10 (out). */
+uint16_t hb_compile(const uint8_t *text, size_t text_len, int32_t *table, size_t table_len, uint64_t start,
+                    uint64_t *out, size_t out_len);
 
 /* The parts of what hb_compile returns. */
 #define HB_REFUSAL(status) ((status) & 0xFF)

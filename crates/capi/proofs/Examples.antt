@@ -15,7 +15,8 @@ use Rattle.grammar.specs.Tests.{badShape, textTests}
 use Rattle.tables.specs.Verdicts.{verdict}
 use Rattle.nodes.specs.Nodes.{goodPosition, goodFrame, goodNode, canStep, childStepOf}
 use Rattle.triple.specs.Lent.{statusOf, afterCall, firstOf, secondOf}
-use Rattle.capi.specs.Calls.{tripleCall, stepCall, writeCall, compileCall, compileStatus}
+use Rattle.capi.specs.Calls.{tripleCall, stepCall, writeCall, compileStatus}
+use Rattle.tables.specs.Compiler.{compiledIn}
 
 -- the corner sum (20, -16) into four places and into two; (14, -4), refused before the room is looked at
 pub triple-examples :
@@ -50,9 +51,9 @@ pub step-examples :
 unfolding numberOf goodPosition goodFrame goodNode canStep childStepOf stepCall statusOf firstOf
 step-examples = (refl, refl, refl, refl, refl)
 
--- the empty text: 12, line 0; `A` alone, ended by LF: 12, line 1
+-- the empty text: 12, line 0; `A` alone, ended by LF: 12, line 1, wherever it was to go
 pub compile-examples :
-    (compileStatus [] [] [] ≡ 12)
-    × (compileStatus (65 ∷ 10 ∷ []) [] [] ≡ 256 + 12)
-unfolding rowsOf fieldsOf shaped badShape textTests verdict statusOf firstOf compileCall compileStatus
+    (compileStatus [] 0 0 [] ≡ 12)
+    × (compileStatus (65 ∷ 10 ∷ []) 0 7 [] ≡ 256 + 12)
+unfolding rowsOf fieldsOf shaped badShape textTests verdict statusOf compiledIn compileStatus
 compile-examples = (refl, refl)

@@ -3,6 +3,7 @@ use mathlib.Core.Path.{_≡_}
 use mathlib.Core.Bool.{cond}
 use mathlib.Core.List.{List, [], _∷_}
 use Prim.Native.Nat.{ℕ, _+_, _*_, _/_}
+use lib.Dec.{ltb}
 use lib.IntN.{ℤ, pos, negsuc}
 use lib.ListN.{length}
 use lib.Ieee.{Float}
@@ -17,7 +18,7 @@ use Rattle.nodes.specs.declared.Reached.{Reached}
 use Rattle.lsystem.specs.Cells.{cellOf, cellValues}
 use Rattle.lsystem.specs.Looks.{locatedOf, locatedValues}
 use Rattle.nodes.specs.Nodes.{childStepOf, nodeOf}
-use Rattle.tables.specs.Descent.{Leaf, descentOf}
+use Rattle.tables.specs.Descent.{Leaf, descentIn}
 use Rattle.curve.specs.declared.PointCell.{PointCell}
 use Rattle.curve.specs.Points.{markOf, pointOf}
 use Rattle.curve.specs.ExactPoints.{exactPointOf}
@@ -31,12 +32,9 @@ use Rattle.mend.specs.declared.Tally.{Tally}
 use Rattle.mend.specs.Mends.{pieceOf, changesOf, mendCall}
 use Rattle.polygon.specs.Polygons.{wktOf, cellOfWkt}
 use Rattle.query.specs.Lines.{answerLine}
-use Rattle.grammar.specs.Texts.{linesOf}
-use Rattle.grammar.specs.Curves.{tokenBytes}
-use Rattle.grammar.specs.Tests.{Verdict, fine, fault}
-use Rattle.tables.specs.Compiler.{tableFor, accepted}
-use Rattle.tables.specs.Verdicts.{verdict}
-use Rattle.triple.specs.Lent.{valued, statusOf, afterCall, firstOf, secondOf, counting}
+use Rattle.tables.specs.Compiler.{Compiled, states, faulty, compiledIn, afterCompile}
+use Rattle.tables.specs.Compiler as Compiler
+use Rattle.triple.specs.Lent.{valued, statusOf, afterCall, counting}
 
 -- x y z
 abbrev pub tripleValues : Triple → List ℤ
@@ -110,8 +108,8 @@ cornerCall x y z = valued pairValues (cornerSumOf (record { x = x; y = y; z = z 
 abbrev pub tripleCall : ℤ → ℤ → Told (List ℤ)
 tripleCall a b = valued tripleValues (tripleOf (record { a = a; b = b }))
 
-abbrev pub descendCall : List ℤ → ℕ → ℕ → ℕ → ℕ → Told (List ℤ)
-descendCall table states passes token s = valued drawnValues (descentOf table states passes token s)
+abbrev pub descendCall : List ℤ → ℕ → ℕ → ℕ → ℕ → ℕ → Told (List ℤ)
+descendCall table start count passes token s = valued drawnValues (descentIn table start count passes token s)
 
 abbrev pub readCall : List ℕ → Told (List ℕ)
 readCall bytes = valued readingValues (readOf bytes)
@@ -163,20 +161,31 @@ wktReadCall r text = valued tripleValues (cellOfWkt r text)
 abbrev pub lineCall : List ℕ → Told (List ℕ × List ℕ)
 lineCall line = counting (λ n. n) (told (answerLine line))
 
--- a text's table, and its number of states
-unfoldable pub compileCall : List ℕ → Told (List ℤ × List ℕ)
-compileCall text = accepted (verdict text) (tableFor text, countValues (2 * length (tokenBytes (linesOf text))))
+-- the number of states, or the refusal's number
+abbrev pub compiledValues : Compiled → Told (List ℕ)
+compiledValues (states n) = told (countValues n)
+compiledValues (faulty n line) = refused n
+compiledValues (Compiler.refused n) = refused n
 
 -- the number of the line at fault, from 1; 0 where no line is
-abbrev pub faultLine : Verdict → ℕ
-faultLine fine = 0
-faultLine (fault n line) = line
+abbrev pub faultLine : Compiled → ℕ
+faultLine (states n) = 0
+faultLine (faulty n line) = line
+faultLine (Compiler.refused n) = 0
 
 -- the status: the refusal's number in the low byte, the line at fault in the high byte; 0 where the text is compiled
-unfoldable pub compileStatus : List ℕ → List ℤ → List ℕ → ℕ
-compileStatus text table out = 256 * faultLine (verdict text) + statusOf (firstOf (compileCall text) out) table
+unfoldable pub compileStatus : List ℕ → ℕ → ℕ → List ℕ → ℕ
+compileStatus text size start out = let c = compiledIn text size start in 256 * faultLine c + statusOf (compiledValues c) out
 
--- the status, the table and the other slice afterwards are the compiler's
-abbrev pub CompileCalled : List ℕ → List ℤ → List ℕ → ℕ → List ℤ → List ℕ → Type 0
-CompileCalled text table out n x y =
-    (n ≡ compileStatus text table out) × (x ≡ afterCall (firstOf (compileCall text) out) table) × (y ≡ afterCall (secondOf (compileCall text) table) out)
+-- the table, which is written where the number of states has a place in the other slice
+unfoldable pub tableAfter : List ℕ → List ℤ → ℕ → List ℕ → List ℤ
+tableAfter text table start out = cond (ltb (length out) 1) table (afterCompile text table start)
+
+-- and that other slice
+unfoldable pub countAfter : List ℕ → ℕ → ℕ → List ℕ → List ℕ
+countAfter text size start out = afterCall (compiledValues (compiledIn text size start)) out
+
+-- the status and both slices afterwards are the compiler's
+abbrev pub CompileCalled : List ℕ → List ℤ → ℕ → List ℕ → ℕ → List ℤ → List ℕ → Type 0
+CompileCalled text table start out n x y =
+    (n ≡ compileStatus text (length table) start out) × (x ≡ tableAfter text table start out) × (y ≡ countAfter text (length table) start out)

@@ -7,10 +7,12 @@
 // is refusal 10, tested last. A slice passes as a pointer and then a length.
 ghost use mathlib.Core.Path.{_≡_};
 ghost use mathlib.Core.Bool.{cond};
+ghost use mathlib.Core.List.{[]};
 ghost use Prim.Native.Nat.{_+_, _*_, _<_, _≤_};
 ghost use lib.Dec.{ltb};
+ghost use lib.ListN.{length};
 ghost use Rattle.triple.specs.Lent.{statusOf, afterCall, firstOf, secondOf};
-ghost use Rattle.capi.specs.Calls.{cellCall, positionCall, nodeCall, stepCall, pointCall, exactPointCall, cornerCall, tripleCall, readCall, writeCall, wktWriteCall, wktReadCall, foldedCall, unfoldedCall, mendBoth, mendStepBoth, lineCall, descendCall, compileCall, compileStatus};
+ghost use Rattle.capi.specs.Calls.{cellCall, positionCall, nodeCall, stepCall, pointCall, exactPointCall, cornerCall, tripleCall, readCall, writeCall, wktWriteCall, wktReadCall, foldedCall, unfoldedCall, mendBoth, mendStepBoth, lineCall, descendCall, compileStatus, tableAfter, countAfter};
 ghost use Rattle.capi.specs.Inside.Given.{clipped, frameClipped};
 ghost use Rattle.triple.specs.Refusals.{numberOf};
 ghost use Rattle.sketch.specs.Drawings.{drawCall};
@@ -374,36 +376,54 @@ pub extern "C" fn hb_line(line: &[u8], text: &mut [u8], out: &mut [u64]) -> u8
     }
 }
 
-// The cell at place s of what a table gives, whoever wrote it, after `passes` passes from a token: a b
-// flavor. `states` counts the states that the table holds at its front.
+// The cell at place s of what a part of a table gives, whoever wrote it, after `passes` passes from a
+// token: a b flavor. The part begins at entry `start` and has `states` states.
 #[no_mangle]
 pub extern "C" fn hb_descend(
     table: &[i32],
+    start: u64,
     states: u64,
     passes: u8,
     token: u64,
     s: u64,
     out: &mut [i64],
 ) -> u8
-    ensures { λ n. ⌜ (n ≡ statusOf (descendCall (now (table .entry)) states passes token s) (now (out .entry))) × (now (out .exit) ≡ afterCall (descendCall (now (table .entry)) states passes token s) (now (out .entry))) ⌝ }
+    ensures { λ n. ⌜ (n ≡ statusOf (descendCall (now (table .entry)) start states passes token s) (now (out .entry))) × (now (out .exit) ≡ afterCall (descendCall (now (table .entry)) start states passes token s) (now (out .entry))) ⌝ }
 {
-    let answer = descent::descend_table(table, states as usize, passes, token as usize, s);
+    let from = start as usize;
+    let count = states as usize;
+    let answer = descent::descend_table(table, from, count, passes, token as usize, s);
     match answer {
         DescentAnswer::At(c) => put_drawn(c, out),
         DescentAnswer::Refused(e) => e.number(),
     }
 }
 
-// Compiles a grammar's text: its table at the front of `table`, and the number of states to `out`. Of a
-// text that is refused, the status has the line at fault in its high byte.
+// Compiles a grammar's text: its table from entry `start` of `table` on, and the number of states to
+// `out`. Of a text that is refused, the status has the line at fault in its high byte.
 #[no_mangle]
-pub extern "C" fn hb_compile(text: &[u8], table: &mut [i32], out: &mut [u64]) -> u16
-    ensures { λ n. ⌜ (n ≡ compileStatus (now (text .entry)) (now (table .entry)) (now (out .entry))) × (now (table .exit) ≡ afterCall (firstOf (compileCall (now (text .entry))) (now (out .entry))) (now (table .entry))) × (now (out .exit) ≡ afterCall (secondOf (compileCall (now (text .entry))) (now (table .entry))) (now (out .entry))) ⌝ }
+pub extern "C" fn hb_compile(text: &[u8], table: &mut [i32], start: u64, out: &mut [u64]) -> u16
+    ensures { λ n. ⌜ (n ≡ compileStatus (now (text .entry)) (length (now (table .entry))) start (now (out .entry))) × (now (table .exit) ≡ tableAfter (now (text .entry)) (now (table .entry)) start (now (out .entry))) × (now (out .exit) ≡ countAfter (now (text .entry)) (length (now (table .entry))) start (now (out .entry))) ⌝ }
 {
-    let room = lendable(table.len(), out.len());
-    let answer = tables::compiler::compile_grammar(text, &mut table[..room]);
+    if out.len() < 1 {
+        return status_without_place(text, table.len(), start as usize);
+    }
+    let answer = tables::compiler::compile_grammar(text, table, start as usize);
     match answer {
         CompileAnswer::States(count) => put_count(count, out) as u16,
+        CompileAnswer::Fault(e, line) => status_at(e, line),
+        CompileAnswer::Refused(e) => e.number() as u16,
+    }
+}
+
+// The status where the number of states has no place: room is tested last, so that a text or a part at
+// fault is refused as such.
+fn status_without_place(text: &[u8], size: usize, start: usize) -> u16
+    ensures { λ n. ⌜ n ≡ compileStatus (now (text .entry)) size start [] ⌝ }
+{
+    let answer = tables::compiler::judge_grammar(text, size, start);
+    match answer {
+        CompileAnswer::States(_) => Refusal::Room.number() as u16,
         CompileAnswer::Fault(e, line) => status_at(e, line),
         CompileAnswer::Refused(e) => e.number() as u16,
     }

@@ -1,7 +1,7 @@
 -- `hb_descend`: the cell's values are written, or the refusal's number is answered.
 use mathlib.Core.Path.{ap}
 use borrow.Author.Needs.{needs}
-use Rattle.tables.specs.Descent.{descentOf}
+use Rattle.tables.specs.Descent.{descentIn}
 use Rattle.descent.specs.Answers.{saidDescent}
 use Rattle.capi.specs.Calls.{drawnValues}
 use Rattle.triple.proofs.LentLaws.{call-told, call-refused}
@@ -29,12 +29,12 @@ same-length c = search needs
 returns : tie.Need-returns
 returns c =
     let a = c .before .before .before .before in
-    call-told drawnValues _ {t = descentOf _ _ _ _ _} (a .before .before .descend-table .ensures) (ap saidDescent (a .answer .given .1)) (c .before .put-drawn .ensures)
+    call-told drawnValues _ {t = descentIn _ _ _ _ _ _} (a .before .before .descend-table .ensures) (ap saidDescent (a .answer .given .1)) (c .before .put-drawn .ensures)
 
 returns-2 : tie.Need-returns-2
 returns-2 c =
     let a = c .before .before in
-    call-refused drawnValues _ {t = descentOf _ _ _ _ _} (a .before .before .descend-table .ensures) (ap saidDescent (a .answer2 .given .1)) (c .number .ensures)
+    call-refused drawnValues _ {t = descentIn _ _ _ _ _ _} (a .before .before .descend-table .ensures) (ap saidDescent (a .answer2 .given .1)) (c .number .ensures)
 
 pub hb-descend-spec : {M : Type 1} → statement M
 hb-descend-spec =
