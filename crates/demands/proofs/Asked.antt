@@ -12,6 +12,7 @@ use Rattle.demands.proofs.Steps.{child-steps, child-step}
 use Rattle.demands.proofs.Rounded.{points}
 use Rattle.demands.proofs.RoundedExactly.{exact-points}
 use Rattle.demands.proofs.Drawn.{grammar}
+use Rattle.demands.proofs.Parted.{parts, two-grammars}
 use Rattle.demands.proofs.Sketched.{drawing-refusals, drawings}
 use Rattle.demands.proofs.ReadBack.{code}
 use Rattle.demands.proofs.Turned.{code-read}
@@ -36,6 +37,8 @@ demands = record {
   exact-points = exact-points;
   grammars = grammar;
   a5 = a5-states;
+  parts = parts;
+  two-grammars = two-grammars;
   drawing-refusals = drawing-refusals;
   drawings = drawings;
   codes = code;

@@ -23,8 +23,10 @@ pub mod Rounded
 -- and by exact fractions
 pub mod RoundedExactly
 -- ---- any grammar
--- what the compiler leaves in a table, descended, is the drawing
+-- what the compiler leaves in a part of a table, descended there, is the drawing
 pub mod Drawn
+-- each part of a table is a table of its own
+pub mod Parted
 -- ---- drawings without tables
 -- a drawing lists the cells that the descent over A5's table gives
 pub mod Sketched

@@ -5,7 +5,7 @@ use mathlib.Core.Logic.{⊎-elim}
 use mathlib.Core.Bool.{Bool, true, false, not, cond, _||_, _&&_, true≢false}
 use mathlib.Core.Option.{Option, some, none}
 use mathlib.Core.List.{List, [], _∷_}
-use Prim.Native.Nat.{ℕ, zero, suc, _+_, _-_, _*_, _/_, _^_, _≤_}
+use Prim.Native.Nat.{ℕ, zero, suc, _+_, _-_, _/_, _^_, _≤_}
 use native.Mathlib.Omega.{arith}
 use lib.Dec.{T, leb, ltb, eqb}
 use lib.IntN.{ℤ, pos, negℤ}
@@ -25,11 +25,11 @@ use Rattle.turtle.specs.Corners.{cornerSumOf, tripleOf, fits32}
 use Rattle.turtle.proofs.CornerLaws.{inverse-refused}
 use Rattle.text.specs.Words.{wordsOf}
 use Rattle.grammar.specs.Texts.{Row, linesOf, rowsOf}
-use Rattle.grammar.specs.Curves.{tokenBytes}
 use Rattle.grammar.specs.Tests.{Verdict, fine, fault, faultAt, first, badShape, badMotif, badRule, badCount, badHeading, badDraw, badTurns, badNet, someRows, lineTests, textTests}
-use Rattle.tables.specs.Compiler.{unless, states, compiledTo, tableFor}
+use Rattle.tables.specs.Compiler.{unless, states, compiledIn, compiledTo, stateCount}
 use Rattle.tables.specs.Compiler as Compiler
-use Rattle.tables.specs.Descent.{goodTable, descentOf}
+use Rattle.tables.specs.Descent.{goodTable, descentOf, descentIn}
+use Rattle.tables.specs.Parts.{partOf, isPast}
 use Rattle.tables.specs.Verdicts.{badSplit, splitTests, verdict}
 use Rattle.lsystem.specs.declared.cell.Cell.{Cell}
 use Rattle.lsystem.specs.Cells.{named, cellOf, positionOf}
@@ -168,20 +168,29 @@ judged text =
     (by-lines 19 (first (λ _. badNet ls) ls) (omega arith) (omega arith)
     (by-lines 20 (first (λ _. badSplit ls) ls) (omega arith) (omega arith) good))))))))
 
-compiler : (text : List ℕ) (table : List ℤ) → CompiledOr (compiledTo text table)
-unfolding compiledTo numberOf
-compiler text table = go (verdict text) (ltb (length table) (length (tableFor text))) (judged text)
+compiler : (text : List ℕ) (table : List ℤ) (start : ℕ) → CompiledOr (compiledTo text table start)
+unfolding compiledIn numberOf
+compiler text table start = go (verdict text) (isPast (length table) start (stateCount text)) (judged text)
   where
-    go : (v : Verdict) (b : Bool) → Judged v → CompiledOr (unless v (cond b (Compiler.refused 10) (states (2 * length (tokenBytes (linesOf text))))))
+    go : (v : Verdict) (b : Bool) → Judged v → CompiledOr (unless v (cond b (Compiler.refused 26) (states (stateCount text))))
     go fine true good = refl
     go fine false good = tt
     go (fault n line) b (bad h k) = (h, k)
 
-descent : (table : List ℤ) (n r token s : ℕ) → AnsweredOr (1 ∷ 22 ∷ 3 ∷ []) (descentOf table n r token s)
-unfolding descentOf numberOf
-descent table n r token s =
+descent : (table : List ℤ) (start n r token s : ℕ) → AnsweredOr (26 ∷ 1 ∷ 22 ∷ 3 ∷ []) (descentIn table start n r token s)
+unfolding descentIn descentOf numberOf
+descent table start n r token s =
+    by-test (isPast (length table) start n) Is.Part tt λ p.
     by-test (eqb r 0 || ltb 30 r) Is.Resolution tt λ k.
-    by-test (not (goodTable table n token)) Is.Table tt λ g.
+    by-test (not (goodTable (partOf table start n) n token)) Is.Table tt λ g.
+    by-test (leb (4 ^ r) s) Is.Position tt λ l. answer
+
+-- within the table it is not refused by 26
+pub descent-inside : (part : List ℤ) (n r token s : ℕ) → AnsweredOr (1 ∷ 22 ∷ 3 ∷ []) (descentOf part n r token s)
+unfolding descentOf numberOf
+descent-inside part n r token s =
+    by-test (eqb r 0 || ltb 30 r) Is.Resolution tt λ k.
+    by-test (not (goodTable part n token)) Is.Table tt λ g.
     by-test (leb (4 ^ r) s) Is.Position tt λ l. answer
 
 -- ---- drawings

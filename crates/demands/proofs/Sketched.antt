@@ -36,6 +36,6 @@ drawings o r buffer z k h room =
       cell = λ s l.
           let named = position-names o r h (omega arith) s l .2 in
           ap (valued cellValues) named ∙ ap told (sym (draw-cells o r ask buffer room s _ l named));
-      descent = λ table s holds l. draw-is-descent o r ask buffer room table holds s l;
+      descent = λ table start s holds l. draw-is-descent o r ask buffer room table start holds s l;
       past = draw-past o r ask buffer room;
     }

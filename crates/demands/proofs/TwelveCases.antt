@@ -10,7 +10,7 @@ use Rattle.triple.specs.Triples.{colorOf, closedFlavor}
 use Rattle.lsystem.specs.Cells.{cellAt, cellOf}
 use Rattle.lsystem.proofs.Examples.{cell-examples, corner-examples}
 use Rattle.tables.proofs.Examples.{no-split}
-use Rattle.tables.specs.Compiler.{compiledTo}
+use Rattle.tables.specs.Compiler.{compiledIn}
 use Rattle.tables.specs.Descent.{entry}
 use Rattle.a5.specs.A5Table.{a5Table}
 use Rattle.a5.specs.Inside.Footprints.{before-x, before-y, before-g, begins, at-x, at-y, at-g, leaf-x, leaf-y, leaf-g}
@@ -52,5 +52,5 @@ dozen =
       case-9 = point-examples .0;
       case-10 = point-examples .1;
       case-11 = (code-examples .0, code-examples .1);
-      case-12 = λ table. unfold compiledTo in rw no-split;
+      case-12 = λ table start. unfold compiledIn in rw no-split;
     }

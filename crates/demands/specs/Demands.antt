@@ -8,7 +8,7 @@ use Prim.Native.Nat.{ℕ, _+_, _-_, _*_, _/_, _%_, _^_, _<_, _≤_}
 use lib.Dec.{T, eqb}
 use lib.IntN.{ℤ, pos, negsuc}
 use lib.Ieee.{Float, fin, binary64, fits}
-use lib.ListN.{length, getD, take, drop}
+use lib.ListN.{length, take, drop}
 use Rattle.triple.specs.declared.Triple.{Triple}
 use Rattle.triple.specs.Refusals.{Told, told, refused, _>>=_}
 use Rattle.triple.specs.Triples.{goodSum, inBounds, parityOf, closedFlavor, flavorOf}
@@ -16,16 +16,11 @@ use Rattle.triple.specs.Domain.{domainOf}
 use Rattle.triple.specs.Orientations.{isBackward}
 use Rattle.triple.specs.Lent.{valued, countOf, afterCall, Called, CalledBoth}
 use Rattle.turtle.specs.declared.AB.{AB}
-use Rattle.turtle.specs.declared.walk.DrawnCell.{DrawnCell}
 use Rattle.turtle.specs.Plane.{_⊕_}
 use Rattle.turtle.specs.Corners.{cornerSum, cornerSumOf, tripleOf, ThreeI32, HasTriple}
-use Rattle.grammar.specs.Texts.{linesOf}
-use Rattle.grammar.specs.Curves.{drawing, tokenBytes, letterOf}
-use Rattle.tables.specs.Children.{noCell}
-use Rattle.tables.specs.Table.{leafOf}
 use Rattle.tables.specs.Compiler.{Compiled, states, compiledTo, afterCompile}
 use Rattle.tables.specs.Compiler as Compiler
-use Rattle.tables.specs.Descent.{descentOf}
+use Rattle.tables.specs.Descent.{descentIn}
 use Rattle.a5.specs.A5.{a5Text}
 use Rattle.lsystem.specs.declared.cell.Cell.{Cell}
 use Rattle.lsystem.specs.declared.Position.{Position}
@@ -55,6 +50,7 @@ use Rattle.capi.specs.Calls.{cellCall, CompileCalled}
 use Rattle.demands.specs.Lookups.{Lookups}
 use Rattle.demands.specs.Thresholds.{Threshold, Thresholds}
 use Rattle.demands.specs.Dozen.{Dozen, moved as movedTo}
+use Rattle.demands.specs.Parts.{Grammar, Apart, Parts, TwoGrammars}
 
 -- ---- calls: every call on every input ends with an answer or a numbered refusal
 abbrev pub isAmong : ℕ → List ℕ → Bool
@@ -66,11 +62,11 @@ pub data AnsweredOr {A : Type 0} (numbers : List ℕ) : Told A → Type 0 where
   answer : {a : A} → AnsweredOr numbers (told a)
   refusal : {n : ℕ} → T (isAmong n numbers) → AnsweredOr numbers (refused n)
 
--- a number of states, a refusal from 12 to 20 with its line, or 10
+-- a number of states, a refusal from 12 to 20 with its line, or 26
 abbrev pub CompiledOr : Compiled → Type 0
 CompiledOr (states n) = Unit
 CompiledOr (Compiler.faulty n line) = (12 ≤ n) × (n ≤ 20)
-CompiledOr (Compiler.refused n) = n ≡ 10
+CompiledOr (Compiler.refused n) = n ≡ 26
 
 -- each call's numbers, as they are tested
 pub record Refusals : Type 0 where
@@ -100,10 +96,10 @@ pub record Refusals : Type 0 where
   pub exact-point : (r : ℕ) (i j : Float) → AnsweredOr (1 ∷ 9 ∷ []) (exactPointOf r i j)
   -- a word, reversed or expanded, written to a buffer
   pub word : (word buffer : List ℕ) → AnsweredOr (10 ∷ []) (countOf (told word) buffer)
-  -- a text compiled into a table
-  pub compiler : (text : List ℕ) (table : List ℤ) → CompiledOr (compiledTo text table)
-  -- a table descended, whoever wrote it
-  pub descent : (table : List ℤ) (n r token s : ℕ) → AnsweredOr (1 ∷ 22 ∷ 3 ∷ []) (descentOf table n r token s)
+  -- a text compiled into a part of a table
+  pub compiler : (text : List ℕ) (table : List ℤ) (start : ℕ) → CompiledOr (compiledTo text table start)
+  -- a part of a table descended, whoever wrote it
+  pub descent : (table : List ℤ) (start n r token s : ℕ) → AnsweredOr (26 ∷ 1 ∷ 22 ∷ 3 ∷ []) (descentIn table start n r token s)
   -- the curve drawn into a buffer
   pub drawing : (o r : ℕ) (buffer : List ℤ) → AnsweredOr (23 ∷ 2 ∷ 10 ∷ []) (countOf (drawCall o r) buffer)
   -- a code written
@@ -133,7 +129,7 @@ pub record LentBuffers : Type 1 where
   -- that of a word, of a drawing, of a code, of what is unfolded, or of a line
   pub buffer : {A : Type 0} (call : Told (List A)) (buffer : List A) (n : ℕ) → countOf call buffer ≡ refused n → afterCall call buffer ≡ buffer
   -- the table that is lent to the compiler
-  pub table : (text : List ℕ) (table : List ℤ) → ((n : ℕ) → compiledTo text table ≡ states n → ⊥) → afterCompile text table ≡ table
+  pub table : (text : List ℕ) (table : List ℤ) (start : ℕ) → ((n : ℕ) → compiledTo text table start ≡ states n → ⊥) → afterCompile text table start ≡ table
   -- that of a fold
   pub folds : (o r : ℕ) (positions slice : List ℕ) (n : ℕ) → valued (λ n. n / 2) (countOf (foldCall o r positions) slice) ≡ refused n → afterCall (foldCall o r positions) slice ≡ slice
   -- the slice of a call from C, where its status is not 0
@@ -141,7 +137,7 @@ pub record LentBuffers : Type 1 where
   -- both slices of one that has two
   pub slices : {A B : Type 0} (call : Told (List A × List B)) (first x : List A) (second y : List B) (status : ℕ) → CalledBoth call first second status x y → (status ≡ 0 → ⊥) → (x ≡ first) × (y ≡ second)
   -- and both of the one that compiles, whose status has the line at fault too
-  pub compiled : (text : List ℕ) (table x : List ℤ) (out y : List ℕ) (status : ℕ) → CompileCalled text table out status x y → (status ≡ 0 → ⊥) → (x ≡ table) × (y ≡ out)
+  pub compiled : (text : List ℕ) (table x : List ℤ) (start : ℕ) (out y : List ℕ) (status : ℕ) → CompileCalled text table start out status x y → (status ≡ 0 → ⊥) → (x ≡ table) × (y ≡ out)
 
 -- ---- corner sums
 pub record CornerSums : Type 0 where
@@ -226,22 +222,6 @@ pub record ExactPoints : Type 0 where
   pub edge-rounded : pointOf 1 (fin true 1 (negsuc 59)) (fin false 0 (pos 0)) ≡ movedTo (pos 0) (pos 1) (pos 0)
   pub edge-exact : exactPointOf 1 (fin true 1 (negsuc 59)) (fin false 0 (pos 0)) ≡ movedTo (pos 0) (pos 0) (pos 0)
 
--- ---- grammars
--- the full drawing of a text: r passes from the starting motif that is the token m
-abbrev pub fullDrawing : List ℕ → ℕ → ℕ → List DrawnCell
-fullDrawing text r m = drawing (linesOf text) r (letterOf (linesOf text) m)
-
--- of a text that the compiler answers with n states
-pub record Grammar (text : List ℕ) (table : List ℤ) (n : ℕ) : Type 0 where
-  -- that is two states for each token
-  pub count : n ≡ 2 * length (tokenBytes (linesOf text))
-  -- the full drawing has exactly 4 ^ r cells
-  pub cells : (r m : ℕ) → m < n / 2 → length (fullDrawing text r m) ≡ 4 ^ r
-  -- with 1 to 30 passes, any starting motif and any s below 4 ^ r, the descent over what the compiler leaves in the table gives the cell at that place
-  pub drawn : (r m s : ℕ) → 1 ≤ r → r ≤ 30 → m < n / 2 → s < 4 ^ r → descentOf (afterCompile text table) n r m s ≡ told (leafOf (getD (fullDrawing text r m) s noCell))
-  -- entries past the last state keep their old contents
-  pub past : drop (41 * n) (afterCompile text table) ≡ drop (41 * n) table
-
 -- ---- drawings without tables
 pub record DrawingRefusals : Type 0 where
   -- resolution 0 or above 6 is 23, tested first
@@ -259,7 +239,7 @@ pub record Drawing (o r : ℕ) (buffer : List ℤ) : Type 0 where
   -- in order: entries 4 s to 4 s + 3 are those of the cell that s names
   pub cell : (s : ℕ) → s < 4 ^ r → cellCall o r s ≡ told (take 4 (drop (4 * s) (afterCall (drawCall o r) buffer)))
   -- and the same, place by place, as those of the cell that the descent over A5's table gives, wherever the compiler left that table
-  pub descent : (table : List ℤ) (s : ℕ) → 41 * 28 ≤ length table → s < 4 ^ r → descended (afterCompile a5Text table) o r s ≡ told (take 4 (drop (4 * s) (afterCall (drawCall o r) buffer)))
+  pub descent : (table : List ℤ) (start s : ℕ) → start + 41 * 28 ≤ length table → s < 4 ^ r → descended (afterCompile a5Text table start) start o r s ≡ told (take 4 (drop (4 * s) (afterCall (drawCall o r) buffer)))
   -- entries past the last cell stay
   pub past : drop (4 * 4 ^ r) (afterCall (drawCall o r) buffer) ≡ drop (4 * 4 ^ r) buffer
 
@@ -412,10 +392,15 @@ pub record Demands : Type 1 where
   -- for every point and every resolution
   pub points : Points
   pub exact-points : ExactPoints
-  -- for every text, every table and every number of states that the compiler answers
-  pub grammars : (text : List ℕ) (table : List ℤ) (n : ℕ) → compiledTo text table ≡ states n → Grammar text table n
-  -- of A5's text it answers 28, whatever table has the room
-  pub a5 : (table : List ℤ) → 41 * 28 ≤ length table → compiledTo a5Text table ≡ states 28
+  -- for every text, every table, every start and every number of states that the compiler answers
+  pub grammars : (text : List ℕ) (table : List ℤ) (start n : ℕ) → compiledTo text table start ≡ states n → Grammar text table start n
+  -- of A5's text it answers 28, in whatever part has the room
+  pub a5 : (table : List ℤ) (start : ℕ) → start + 41 * 28 ≤ length table → compiledTo a5Text table start ≡ states 28
+  -- for all parts of all tables
+  pub parts : Parts
+  -- for every two texts, in parts that are apart
+  pub two-grammars : (text other : List ℕ) (table : List ℤ) (start n place m : ℕ) → compiledTo text table start ≡ states n → compiledTo other (afterCompile text table start) place ≡ states m → Apart start n place m
+      → TwoGrammars text other table start n place m
   -- at every resolution, in every orientation, into every buffer
   pub drawing-refusals : DrawingRefusals
   -- with 1 to 6 passes, in six orientations, into every buffer that has the room

@@ -50,4 +50,4 @@ pub record Dozen : Type 0 where
   -- 11. UV r 2 s 6 codes to 02 60; WV r 1 s 3 to A1 C0
   pub case-11 : (codeBytes 0 2 6 ≡ 0x02 ∷ 0x60 ∷ []) × (codeBytes 5 1 3 ≡ 0xA1 ∷ 0xC0 ∷ [])
   -- 12. `A A+++A---AA E` with LF: refusal 20, line 1
-  pub case-12 : (table : List ℤ) → compiledTo (65 ∷ 32 ∷ 65 ∷ 43 ∷ 43 ∷ 43 ∷ 65 ∷ 45 ∷ 45 ∷ 45 ∷ 65 ∷ 65 ∷ 32 ∷ 69 ∷ 10 ∷ []) table ≡ faulty 20 1
+  pub case-12 : (table : List ℤ) (start : ℕ) → compiledTo (65 ∷ 32 ∷ 65 ∷ 43 ∷ 43 ∷ 43 ∷ 65 ∷ 45 ∷ 45 ∷ 45 ∷ 65 ∷ 65 ∷ 32 ∷ 69 ∷ 10 ∷ []) table start ≡ faulty 20 1

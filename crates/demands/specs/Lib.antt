@@ -2,3 +2,4 @@ pub mod Lookups
 pub mod Thresholds
 pub mod Demands
 pub mod Dozen
+pub mod Parts
