@@ -2,8 +2,8 @@
 ghost use mathlib.Core.Path.{_≡_};
 ghost use Rattle.tables.specs.Parts.{isPast};
 
-// Whether a part's start, or its end, is past a table of `size` entries. The room is divided, as the
-// numbers of so many states might not be counted.
+// Whether a part's start, or its end, is past a table of `size` entries. The room is counted in states: the
+// end of a part that is past every number could not be worked out.
 pub fn is_past(size: usize, start: usize, states: usize) -> bool
     ensures { λ b. ⌜ b ≡ isPast size start states ⌝ }
 {
