@@ -1,0 +1,13 @@
+-- ---- grounds
+-- two cells overlap where their grounds meet
+pub mod GroundLaws
+-- a code judged by grounds
+pub mod JudgeLaws
+-- ---- the list
+-- the verdict, and the loop that finds it
+pub mod CheckLaws
+-- ---- the operation
+-- its contract allows one result alone
+pub mod Determined
+-- worked examples
+pub mod Examples

@@ -1,0 +1,3 @@
+pub mod Treated
+pub mod Answers
+pub mod Inside
