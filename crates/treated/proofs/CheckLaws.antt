@@ -19,7 +19,7 @@ use Rattle.treated.specs.declared.Judged.{Judged}
 use Rattle.treated.specs.Treated.{judgeOf, good, faulty, judged, checkFrom, checkOf}
 use Rattle.treated.specs.Inside.Grounds.{beginning, startOf, endOf, judgeBy}
 use Rattle.treated.proofs.GroundLaws.{behind-fits}
-use Rattle.treated.proofs.JudgeLaws.{behind-within, Stands, read-stands, Kept, judged-same, Good, right-good, kept-next}
+use Rattle.treated.proofs.JudgeLaws.{behind-within, Stands, read-stands, Kept, judged-same, Fine, right-fine, kept-next}
 
 -- ---- code after code
 pub check-end : (n : ℕ) (before : List Reading) (rest : List ℕ) → length rest ≤ 0 → checkFrom n before rest ≡ told (good (length before))
@@ -121,8 +121,8 @@ module _ {list starts ends : List ℕ} {o at n : ℕ} (so-far : Checked list sta
           ∙ ap (λ (k : ℕ). checkFrom k (so-far .before) (drop at list)) (sym one-more) ∙ so-far .ahead
 
       module _ (x : Reading) (e : j ≡ Judged.Right x) where
-        fine : Good (so-far .before) (readOf (drop at list)) x
-        fine = right-good (so-far .before) (readOf (drop at list)) (is ∙ e)
+        fine : Fine (so-far .before) (readOf (drop at list)) x
+        fine = right-fine (so-far .before) (readOf (drop at list)) (is ∙ e)
 
         stands : Stands (drop at list) x
         stands = read-stands (drop at list) small-rest (fine .sound)

@@ -194,23 +194,23 @@ module _ (before : List Reading) (o : ℕ) (starts ends : List ℕ) (kept : Kept
       ap₂ (λ (a b : List ℕ). touches a b (startOf x) (endOf x)) (kept .starts-are) (kept .ends-are) ∙ sym (overlaps-touches before x (kept .shallow) (shallow x refl)) in
       rw (d, m)
 
--- ---- what a code that is good together with those before it is
-pub record Good (before : List Reading) (t : Told Reading) (x : Reading) : Type 0 where
+-- ---- what is known of a code that is good together with those before it
+pub record Fine (before : List Reading) (t : Told Reading) (x : Reading) : Type 0 where
   pub sound : t ≡ told x
   pub unmarked : x .old ≡ false
   pub oriented : strays before x ≡ false
   pub apart : overlaps before x ≡ false
 
-pub not-right : {f : Fault} {x : Reading} {A : Type 0} → Judged.Wrong f ≡ Judged.Right x → A
+not-right : {f : Fault} {x : Reading} {A : Type 0} → Judged.Wrong f ≡ Judged.Right x → A
 not-right e = let z : _≡_ {A = ℕ} 0 1 = cc in let none : ⊥ = omega arith in absurd none
 
-pub right-good : (before : List Reading) (t : Told Reading) {x : Reading} → judgeOf before t ≡ Judged.Right x → Good before t x
+pub right-fine : (before : List Reading) (t : Told Reading) {x : Reading} → judgeOf before t ≡ Judged.Right x → Fine before t x
 unfolding judgeOf
-right-good before (refused n) e = not-right e
-right-good before (told y) {x} e = go (y .old) (strays before y) (overlaps before y) refl refl refl e
+right-fine before (refused n) e = not-right e
+right-fine before (told y) {x} e = go (y .old) (strays before y) (overlaps before y) refl refl refl e
   where
     go : (a b c : Bool) → y .old ≡ a → strays before y ≡ b → overlaps before y ≡ c
-        → cond a (Judged.Wrong Marked) (cond b (Judged.Wrong Orientation) (cond c (Judged.Wrong Overlap) (Judged.Right y))) ≡ Judged.Right x → Good before (told y) x
+        → cond a (Judged.Wrong Marked) (cond b (Judged.Wrong Orientation) (cond c (Judged.Wrong Overlap) (Judged.Right y))) ≡ Judged.Right x → Fine before (told y) x
     go true b c p q r e = not-right e
     go false true c p q r e = not-right e
     go false false true p q r e = not-right e
@@ -224,7 +224,7 @@ unfolding strays
 heads-next [] x e = refl
 heads-next (y ∷ before) x e = sym (eqb-true _ _ (not-false (eqb (x .orientation) (y .orientation)) e))
 
-shallow-next : (before : List Reading) (x : Reading) → Shallow before → x .resolution ≤ 30 → Shallow (before ++ (x ∷ []))
+pub shallow-next : (before : List Reading) (x : Reading) → Shallow before → x .resolution ≤ 30 → Shallow (before ++ (x ∷ []))
 shallow-next [] x s h = (h, tt)
 shallow-next (y ∷ before) x s h = (s .0, shallow-next before x (s .1) h)
 

@@ -6,6 +6,8 @@ pub mod JudgeLaws
 -- ---- the list
 -- the verdict, and the loop that finds it
 pub mod CheckLaws
+-- what the verdict says of all codes at once
+pub mod Claimed
 -- ---- the operation
 -- its contract allows one result alone
 pub mod Determined

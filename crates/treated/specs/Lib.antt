@@ -1,3 +1,4 @@
 pub mod Treated
+pub mod Claims
 pub mod Answers
 pub mod Inside
