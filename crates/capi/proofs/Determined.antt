@@ -7,6 +7,7 @@ use lib.Ieee.{Float}
 use Rattle.triple.specs.Refusals.{Told}
 use Rattle.triple.specs.Lent.{Called, CalledBoth}
 use Rattle.sketch.specs.Drawings.{drawCall}
+use Rattle.capi.specs.Verdicts.{checkCall}
 use Rattle.capi.specs.Calls.{cellCall, positionCall, nodeCall, stepCall, pointCall, exactPointCall, cornerCall, tripleCall, writeCall, readCall, wktWriteCall, wktReadCall, foldedCall, unfoldedCall, mendBoth, mendStepBoth, lineCall, descendCall, CompileCalled}
 
 -- ---- whatever the call gives
@@ -71,6 +72,9 @@ hb-mend-determined list out = called-both-once (mendBoth list out) out
 pub hb-mend-step-determined : (rest out counts : List ℕ) (m n : ℕ) (v w x y : List ℕ)
     → CalledBoth (mendStepBoth rest) out counts m v x → CalledBoth (mendStepBoth rest) out counts n w y → (m ≡ n) × (v ≡ w) × (x ≡ y)
 hb-mend-step-determined rest = called-both-once (mendStepBoth rest)
+
+pub hb-check-determined : (list out : List ℕ) (m n : ℕ) (x y : List ℕ) → Called (checkCall list) out m x → Called (checkCall list) out n y → (m ≡ n) × (x ≡ y)
+hb-check-determined list = called-once (checkCall list)
 
 pub hb-wkt-write-determined : (r : ℕ) (x y z : ℤ) (text out : List ℕ) (m n : ℕ) (t u v w : List ℕ)
     → CalledBoth (wktWriteCall r x y z) text out m t v → CalledBoth (wktWriteCall r x y z) text out n u w → (m ≡ n) × (t ≡ u) × (v ≡ w)

@@ -8,6 +8,9 @@ pub mod CountedLaws
 -- ---- mending
 -- values to one slice, and a few numbers of how many they are to another
 pub mod MendLaws
+-- ---- treated lists
+-- the verdict by what the checker answers
+pub mod VerdictLaws
 -- ---- the compiler's call
 -- faults and lines are few, so that both go into a status
 pub mod FaultLaws

@@ -13,6 +13,7 @@ ghost use lib.Dec.{ltb};
 ghost use lib.ListN.{length};
 ghost use Rattle.triple.specs.Lent.{statusOf, afterCall, firstOf, secondOf};
 ghost use Rattle.capi.specs.Calls.{cellCall, positionCall, nodeCall, stepCall, pointCall, exactPointCall, cornerCall, tripleCall, readCall, writeCall, wktWriteCall, wktReadCall, foldedCall, unfoldedCall, mendBoth, mendStepBoth, lineCall, descendCall, compileStatus, tableAfter, countAfter};
+ghost use Rattle.capi.specs.Verdicts.{checkCall};
 ghost use Rattle.capi.specs.Inside.Given.{clipped, frameClipped};
 ghost use Rattle.triple.specs.Refusals.{numberOf};
 ghost use Rattle.sketch.specs.Drawings.{drawCall};
@@ -47,13 +48,17 @@ use put::put_triple;
 use query::print::PrintAnswer;
 use sketch::DrawAnswer;
 use tables::compiler::CompileAnswer;
+use treated::CheckAnswer;
 use triple::Triple;
 use triple::refusal::Refusal;
 use turtle::AB;
 use turtle::corner::CornerAnswer;
 use turtle::corner::TripleAnswer;
+use verdict::fault_number;
+use verdict::put_verdict;
 
 mod put;
+mod verdict;
 
 // The cell that a position names: x y z flavor.
 #[no_mangle]
@@ -359,6 +364,20 @@ pub extern "C" fn hb_wkt_read(resolution: u8, text: &[u8], out: &mut [i32]) -> u
     match answer {
         PolygonAnswer::Cell(t) => put_triple(t, out),
         PolygonAnswer::Refused(e) => e.number(),
+    }
+}
+
+// Checks a partner's treated list: fault number. The fault is 0 where the list is good, and the number
+// how many codes it has; else the number is that of the first code at fault.
+#[no_mangle]
+pub extern "C" fn hb_check(list: &[u8], out: &mut [u64]) -> u8
+    ensures { λ n. ⌜ (n ≡ statusOf (checkCall (now (list .entry))) (now (out .entry))) × (now (out .exit) ≡ afterCall (checkCall (now (list .entry))) (now (out .entry))) ⌝ }
+{
+    let answer = treated::check(list);
+    match answer {
+        CheckAnswer::Good(n) => put_verdict(0, n, out),
+        CheckAnswer::Faulty(f, n) => put_verdict(fault_number(f), n, out),
+        CheckAnswer::Refused(e) => e.number(),
     }
 }
 
