@@ -19,6 +19,7 @@ use Rattle.demands.proofs.Turned.{code-read}
 use Rattle.demands.proofs.WholeCodes.{whole-codes}
 use Rattle.demands.proofs.Folded.{folding, unfolds}
 use Rattle.demands.proofs.Mended.{mending}
+use Rattle.demands.proofs.Claimed.{treated-lists}
 use Rattle.demands.proofs.Ringed.{polygons}
 use Rattle.demands.proofs.TwelveCases.{dozen}
 
@@ -48,6 +49,7 @@ demands = record {
   fold-empty = empty-folds;
   unfolds = unfolds;
   mending = mending;
+  treated-lists = treated-lists;
   polygons = polygons;
   dozen = dozen;
 }

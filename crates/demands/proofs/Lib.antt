@@ -42,6 +42,8 @@ pub mod WholeCodes
 pub mod Folded
 -- lists of codes, mended
 pub mod Mended
+-- and treated lists, checked
+pub mod Claimed
 -- ---- polygons
 -- a polygon is its cell's and no other's
 pub mod Ringed

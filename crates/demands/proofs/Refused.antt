@@ -48,6 +48,8 @@ use Rattle.fold.specs.Cells.{cellsIn}
 use Rattle.fold.specs.Folds.{allBelow, ascending, foldCall}
 use Rattle.fold.specs.Unfolds.{shallow, inside, ordered, unfoldCall}
 use Rattle.mend.specs.Mends.{stepOf, mendCall, mendedTo}
+use Rattle.treated.specs.Treated.{Verdict as TreatedVerdict, checkOf}
+use Rattle.treated.proofs.Claimed.{refused-long}
 use Rattle.polygon.specs.Polygons.{polygonText, wktOf, readable, cornerAt, parityFrom, startingAt, narrow, sameText, spelledCell, cellOfWkt}
 use Rattle.query.specs.declared.Query.{Query}
 use Rattle.text.specs.Decimals.{u8, u64, i32, decimalAt}
@@ -259,6 +261,14 @@ mending-step : (rest out : List ℕ) → AnsweredOr (10 ∷ []) (stepOf rest out
 unfolding stepOf
 mending-step rest out = by-step (by-room out tt answer) λ n. answer
 
+-- ---- treated lists
+checking : (list : List ℕ) → AnsweredOr (29 ∷ []) (checkOf list)
+checking list = by (checkOf list) refl
+  where
+    by : (v : Told TreatedVerdict) → checkOf list ≡ v → AnsweredOr (29 ∷ []) v
+    by (told a) e = answer
+    by (refused n) e = rw (refused-long list e) (refusal tt)
+
 -- ---- polygons
 polygon-writing : (r : ℕ) (t : Triple) (buffer : List ℕ) → AnsweredOr (1 ∷ 4 ∷ 5 ∷ 10 ∷ []) (countOf (wktOf r t) buffer)
 unfolding wktOf numberOf
@@ -350,6 +360,7 @@ refusals = record {
   unfolds = unfolds;
   mending = mending;
   mending-step = mending-step;
+  checking = checking;
   polygon-writing = polygon-writing;
   polygon-reading = polygon-reading;
   line = line;

@@ -42,6 +42,7 @@ use Rattle.fold.specs.Folds.{has, ascending, foldCall}
 use Rattle.fold.specs.Unfolds.{apart, unfoldCall}
 use Rattle.fold.specs.Foldings.{cellsOf, Step, Foldings, Ended, Lone}
 use Rattle.mend.specs.Mends.{longestCode, pieceOf, mendOf, changesOf, Sound, Reported, Every, stepOf, mendCall, mendedTo}
+use Rattle.treated.specs.Treated.{checkOf}
 use Rattle.polygon.specs.Polygons.{cellCorners, ringText, polygonText, wktOf, cellOfWkt}
 use Rattle.query.specs.declared.Query.{Query}
 use Rattle.query.specs.Queries.{answerOf}
@@ -51,6 +52,7 @@ use Rattle.demands.specs.Lookups.{Lookups}
 use Rattle.demands.specs.Thresholds.{Threshold, Thresholds}
 use Rattle.demands.specs.Dozen.{Dozen, moved as movedTo}
 use Rattle.demands.specs.Parts.{Grammar, Apart, Parts, TwoGrammars}
+use Rattle.demands.specs.TreatedLists.{TreatedLists}
 
 -- ---- calls: every call on every input ends with an answer or a numbered refusal
 abbrev pub isAmong : ℕ → List ℕ → Bool
@@ -113,6 +115,8 @@ pub record Refusals : Type 0 where
   -- a list mended, and one step of that
   pub mending : (list out : List ℕ) → AnsweredOr (10 ∷ []) (mendedTo list out)
   pub mending-step : (rest out : List ℕ) → AnsweredOr (10 ∷ []) (stepOf rest out)
+  -- a treated list checked
+  pub checking : (list : List ℕ) → AnsweredOr (29 ∷ []) (checkOf list)
   -- a polygon written
   pub polygon-writing : (r : ℕ) (t : Triple) (buffer : List ℕ) → AnsweredOr (1 ∷ 4 ∷ 5 ∷ 10 ∷ []) (countOf (wktOf r t) buffer)
   -- a polygon read
@@ -419,6 +423,8 @@ pub record Demands : Type 1 where
   pub unfolds : (o r : ℕ) (pairs positions : List ℕ) → unfoldCall o r pairs ≡ told positions → Unfolding o r pairs positions
   -- for every list of bytes
   pub mending : (list : List ℕ) → Bytes list → Mending list
+  -- for every list
+  pub treated-lists : TreatedLists
   -- for every triple, every text and every resolution
   pub polygons : Polygons
   -- the twelve worked examples

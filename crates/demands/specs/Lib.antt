@@ -3,3 +3,4 @@ pub mod Thresholds
 pub mod Demands
 pub mod Dozen
 pub mod Parts
+pub mod TreatedLists
