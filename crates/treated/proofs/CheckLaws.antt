@@ -5,6 +5,7 @@ use Prim.Native.Nat.{ℕ, zero, suc, _+_, _-_, _^_, _<_, _≤_}
 use native.Mathlib.Nat as N
 use native.Mathlib.Numerals.{add-one}
 use native.Mathlib.Omega.{arith}
+use lib.Dec.{T, leb, leb→le}
 use lib.ListN.{length, getD, take, drop, set, length-drop, length-append, length-set}
 use lib.Seq.{drop-drop, getD-drop, take-suc-set, length-take-le}
 use mir.Syntax.{w8, w64}
@@ -52,12 +53,12 @@ pub record Checked (list starts ends : List ℕ) (o at n : ℕ) : Type 0 where
   pub count : length before ≡ n
   pub inside : at ≤ length list
   pub few : n ≤ 512
-  pub starts-long : length starts ≡ 512
-  pub ends-long : length ends ≡ 512
+  pub starts-long : 512 ≤ length starts
+  pub ends-long : 512 ≤ length ends
   pub kept : Kept before o (take n starts) (take n ends)
   pub ahead : checkFrom (512 - n) before (drop at list) ≡ checkOf list
 
-pub checked-none : (list starts ends : List ℕ) (o : ℕ) → length starts ≡ 512 → length ends ≡ 512 → Checked list starts ends o 0 0
+pub checked-none : (list starts ends : List ℕ) (o : ℕ) → 512 ≤ length starts → 512 ≤ length ends → Checked list starts ends o 0 0
 unfolding checkOf
 checked-none list starts ends o s e =
     record {
@@ -70,6 +71,9 @@ checked-none list starts ends o s e =
       kept = record { starts-are = refl; ends-are = refl; shallow = tt; first = tt };
       ahead = refl;
     }
+
+one-more : (n : ℕ) → n < 512 → 512 - n ≡ suc (512 - (n + 1))
+one-more n room = omega arith
 
 module _ {list starts ends : List ℕ} {o at n : ℕ} (so-far : Checked list starts ends o at n) where
   starts-within : n ≤ length starts
@@ -96,12 +100,12 @@ module _ {list starts ends : List ℕ} {o at n : ℕ} (so-far : Checked list sta
     some : 0 < length (drop at list)
     some = rw length-drop (omega arith)
 
-    pub checked-long : 512 ≤ n → refused (numberOf Is.Long) ≡ checkOf list
-    checked-long full =
-        let none : 512 - n ≡ 0 = omega arith in
+    pub checked-long : {most : ℕ} → most ≤ n → T (leb 512 most) → refused (numberOf Is.Long) ≡ checkOf list
+    checked-long {most} full enough =
+        let none : 512 - n ≡ 0 = omega (arith, leb→le 512 most enough) in
         sym (check-long (so-far .before) (drop at list) some) ∙ ap (λ (k : ℕ). checkFrom k (so-far .before) (drop at list)) (sym none) ∙ so-far .ahead
 
-    module _ (room : n < 512) (small : (i : ℕ) → Fits w8 (getD list i 0)) {j : Judged} (j-is : j ≡ judgeBy o (take n starts) (take n ends) (readOf (take (length list - at) (drop at list)))) where
+    module _ (small : (i : ℕ) → Fits w8 (getD list i 0)) {j : Judged} (j-is : j ≡ judgeBy o (take n starts) (take n ends) (readOf (take (length list - at) (drop at list)))) where
       small-rest : (i : ℕ) → Fits w8 (getD (drop at list) i 0)
       small-rest i = rw (getD-drop at list i 0) (small (at + i))
 
@@ -111,14 +115,11 @@ module _ {list starts ends : List ℕ} {o at n : ℕ} (so-far : Checked list sta
           (j-is ∙ ap (λ (l : List ℕ). judgeBy o (take n starts) (take n ends) (readOf l)) (all-from list at)
           ∙ judged-same (so-far .before) o (take n starts) (take n ends) (so-far .kept) (readOf (drop at list)) (λ x e. read-stands (drop at list) small-rest e .shallow))
 
-      one-more : 512 - n ≡ suc (512 - (n + 1))
-      one-more = omega arith
-
-      pub checked-faulty : {f : Fault} → j ≡ Judged.Wrong f → told (faulty f n) ≡ checkOf list
-      checked-faulty {f} e =
+      pub checked-faulty : n < 512 → {f : Fault} → j ≡ Judged.Wrong f → told (faulty f n) ≡ checkOf list
+      checked-faulty room {f} e =
           ap (λ (k : ℕ). told (faulty f k)) (sym (so-far .count))
           ∙ sym (check-wrong (512 - (n + 1)) (so-far .before) (drop at list) some (is ∙ e))
-          ∙ ap (λ (k : ℕ). checkFrom k (so-far .before) (drop at list)) (sym one-more) ∙ so-far .ahead
+          ∙ ap (λ (k : ℕ). checkFrom k (so-far .before) (drop at list)) (sym (one-more n room)) ∙ so-far .ahead
 
       module _ (x : Reading) (e : j ≡ Judged.Right x) where
         fine : Fine (so-far .before) (readOf (drop at list)) x
@@ -148,9 +149,9 @@ module _ {list starts ends : List ℕ} {o at n : ℕ} (so-far : Checked list sta
         pub ahead-less : length list - (at + x .used) < length list - at
         ahead-less = omega (arith, stands .some)
 
-        pub checked-next : {a b : ℕ} → a ≡ beginning (x .resolution) (x .s) → b ≡ beginning (x .resolution) (x .s + 1)
+        pub checked-next : n < 512 → {a b : ℕ} → a ≡ beginning (x .resolution) (x .s) → b ≡ beginning (x .resolution) (x .s + 1)
             → {s t : List ℕ} → s ≡ set starts n a → t ≡ set ends n b → Checked list s t (x .orientation) (at + x .used) (n + 1)
-        checked-next {a} {b} a-is b-is s-is t-is =
+        checked-next room {a} {b} a-is b-is s-is t-is =
             let next = kept-next (so-far .before) x (so-far .kept) right-shallow (fine .oriented) in
             let b-end : b ≡ endOf x = b-is ∙ ap (beginning (x .resolution)) (add-one (x .s)) in
             let s : take (n + 1) (set starts n a) ≡ take n starts ++ (startOf x ∷ []) =
@@ -163,13 +164,13 @@ module _ {list starts ends : List ℕ} {o at n : ℕ} (so-far : Checked list sta
               count = length-append (so-far .before) (x ∷ []) ∙ ap (λ (k : ℕ). k + 1) (so-far .count);
               inside = within;
               few = omega arith;
-              starts-long = simp length-set (so-far .starts-long);
-              ends-long = simp length-set (so-far .ends-long);
+              starts-long = rw length-set (so-far .starts-long);
+              ends-long = rw length-set (so-far .ends-long);
               kept = rw (s, t) next;
               ahead =
                   ap (checkFrom (512 - (n + 1)) (so-far .before ++ (x ∷ []))) (sym (drop-drop (x .used) at list))
                   ∙ sym (check-right (512 - (n + 1)) (so-far .before) (drop at list) some (is ∙ e))
-                  ∙ ap (λ (k : ℕ). checkFrom k (so-far .before) (drop at list)) (sym one-more) ∙ so-far .ahead;
+                  ∙ ap (λ (k : ℕ). checkFrom k (so-far .before) (drop at list)) (sym (one-more n room)) ∙ so-far .ahead;
             }
 
 pub ruleset checking = (checked-none, starts-front, ends-front, fronts-same, checked-good, checked-long, checked-faulty, right-shallow, right-within, right-behind, right-fits, at-fits, ahead-less, checked-next)

@@ -87,10 +87,11 @@ fn judge_reading(x: Reading, orientation: u8, starts: &[u64], ends: &[u64]) -> J
     requires { ⌜ (x .resolution ≤ 30) × (x .s < 4 ^ x .resolution) × (length (now starts) ≡ length (now ends)) ⌝ }
     ensures { λ j. ⌜ j ≡ judgeReading orientation (now (starts .entry)) (now (ends .entry)) x ⌝ }
 {
+    let strays = differs(x.orientation, orientation, starts.len());
     if x.old {
         return Judged::Wrong(Fault::Marked);
     }
-    if differs(x.orientation, orientation, starts.len()) {
+    if strays {
         return Judged::Wrong(Fault::Orientation);
     }
     let start = begin(x.resolution, x.s);

@@ -9,8 +9,8 @@ pub judge-reading-spec : {M : Type 1} → statement M
 judge-reading-spec =
     tie.close
     (tie.spec
-    (λ c. search (needs, beginnings, judging))
     (λ c κs. search needs)
+    (λ c. search (needs, beginnings, judging))
     (λ c. search (needs, beginnings, judging))
     (λ c κs. search needs)
     (λ c. search (needs, beginnings, judging))
