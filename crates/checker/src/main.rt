@@ -8,7 +8,8 @@ use libc::STDOUT_FILENO;
 use treated::CheckAnswer;
 use treated::Fault;
 
-// As many bytes as 512 codes can have, and one more: no byte behind these changes the verdict.
+// As many bytes as 512 codes can have, and one more: they tell the verdict, whatever comes after them
+// (proofs/FrontLaws.antt of `treated`).
 const ENOUGH: usize = 4609;
 
 // What a read gave: how many bytes, and whether there is nothing more to be read, at the end of the input

@@ -8,6 +8,8 @@ pub mod JudgeLaws
 pub mod CheckLaws
 -- what the verdict says of all codes at once
 pub mod Claimed
+-- how many bytes tell it
+pub mod FrontLaws
 -- ---- the operation
 -- its contract allows one result alone
 pub mod Determined
