@@ -15,8 +15,8 @@
  * functions compute in whole numbers, and what is double there is exact in every mode. A call may raise
  * floating-point flags, and none may be set to trap.
  *
- * A call takes at most 16 KB of stack for hb_compile, 4 KB for hb_draw, 2 KB for hb_line, and 512 bytes
- * for any other.
+ * A call takes at most 16 KB of stack for hb_compile, 9 KB for hb_check, 4 KB for hb_draw, 2 KB for
+ * hb_line, and 512 bytes for any other.
  *
  * orientation  0 to 5: UV, VU, UW, WU, VW, WV
  * resolution   0 to 30
@@ -38,6 +38,7 @@
 #define HB_VERSION_NUMBER (HB_VERSION_MAJOR * 10000 + HB_VERSION_MINOR * 100 + HB_VERSION_PATCH)
 
 #define HB_CODE_BYTES 9        /* the longest code of a position */
+#define HB_LIST_CODES 512      /* the most codes of a treated list */
 #define HB_WKT_BYTES 106       /* the longest polygon of a cell */
 #define HB_LINE_BYTES 64       /* the longest line that is a query */
 #define HB_ANSWER_BYTES 107    /* room for the answer to any line */
@@ -82,9 +83,7 @@ enum {
     HB_PART = 26,       /* a part of a table that starts or ends past it */
     HB_POLYGON = 27,    /* text that is no cell's polygon, or not in its spelling */
     HB_RETIRED = 28,    /* a code to be written for VU, WU or VW */
-
-    /* of operations to come: no function of this version returns them */
-    HB_LONG = 29        /* more codes than are checked at once */
+    HB_LONG = 29        /* bytes after 512 good codes of a treated list */
 };
 
 /* The cell that the position s names.
@@ -197,6 +196,16 @@ uint8_t hb_mend(const uint8_t *list, size_t list_len, uint8_t *out, size_t out_l
  * an old code was turned, 3 where both, spare first, 4 where a byte was dropped. Of nothing: 0 0 0.
  * Refusals: 10, where out is shorter than what is written or counts than its values. */
 uint8_t hb_mend_step(const uint8_t *rest, size_t rest_len, uint8_t *out, size_t out_len, uint64_t *counts, size_t counts_len);
+
+/* Checks a partner's treated list: up to HB_LIST_CODES codes, one after another, at mixed resolutions. It is
+ * good where every code is sound, unmarked and of the first code's orientation, and no cell equals or
+ * contains another. Else the first code that breaks this, taken together with those before it, is named.
+ * Values: fault number (2). Of a good list, also of the empty one, the fault is 0 and the number is how
+ * many codes it has; else the number is the code's, from 0, and the fault is the earliest of 1 where
+ * hb_code_read refuses it, 2 where it is old, 3 where it is of another orientation than the first, and 4
+ * where its cell equals one before it, contains it or lies in it.
+ * Refusals: 29 where the first HB_LIST_CODES codes are good and bytes remain after them, 10. */
+uint8_t hb_check(const uint8_t *list, size_t list_len, uint64_t *out, size_t out_len);
 
 /* The answer to one query line, of at most HB_LINE_BYTES without LF, as the program wedge prints it,
  * without LF: at most HB_ANSWER_BYTES. A line that is refused has an answer too, '!' and the number.

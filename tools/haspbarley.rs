@@ -5,6 +5,7 @@ extern "C" {
     fn hb_draw(o: u8, r: u8, out: *mut i32, len: usize) -> u8;
     fn hb_fold(o: u8, r: u8, positions: *const u64, positions_len: usize, pairs: *mut u64, pairs_len: usize, count: *mut u64, len: usize) -> u8;
     fn hb_mend(list: *const u8, list_len: usize, out: *mut u8, out_len: usize, counts: *mut u64, len: usize) -> u8;
+    fn hb_check(list: *const u8, list_len: usize, out: *mut u64, len: usize) -> u8;
     fn hb_point(i: f64, j: f64, r: u8, out: *mut i32, len: usize) -> u8;
     fn hb_point_exact(i: f64, j: f64, r: u8, out: *mut i32, len: usize) -> u8;
     fn hb_corner_sum(x: i32, y: i32, z: i32, out: *mut i64, len: usize) -> u8;
@@ -44,6 +45,12 @@ pub fn mend(list: &[u8], out: &mut [u8]) -> Result<[u64; 2], u8> {
     let mut counts = [0; 2];
     let status = unsafe { hb_mend(list.as_ptr(), list.len(), out.as_mut_ptr(), out.len(), counts.as_mut_ptr(), 2) };
     told(status, counts)
+}
+
+// fault number of a treated list
+pub fn check(list: &[u8]) -> Result<[u64; 2], u8> {
+    let mut out = [0; 2];
+    told(unsafe { hb_check(list.as_ptr(), list.len(), out.as_mut_ptr(), 2) }, out)
 }
 
 // s flavor picks comparisons

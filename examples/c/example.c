@@ -193,6 +193,39 @@ static void mend(void)
     printf("mended into one byte less: ! %d, count left %" PRIu64 "\n", status, counts[0]);
 }
 
+/* The verdict on a treated list. */
+static void check(const char *name, const uint8_t *list, size_t length)
+{
+    static const char *const FAULTS[] = {"good", "unsound", "marked", "orientation", "overlap"};
+    uint64_t verdict[2];
+    uint8_t status = hb_check(list, length, verdict, 2);
+    if (status == HB_OK)
+        printf("check %s: %s %" PRIu64 "\n", name, FAULTS[verdict[0]], verdict[1]);
+    else
+        printf("check %s: ! %d\n", name, status);
+}
+
+/* Lists of UV at resolutions 1 and 2 that are good, and with each fault; and one of more codes than are
+ * checked, beside each other at resolution 5. */
+static void checks(void)
+{
+    uint8_t many[3 * (HB_LIST_CODES + 1)];
+    check("none", NULL, 0);
+    check("three apart", (const uint8_t[]){0x01, 0x00, 0x02, 0x80, 0x01, 0x40}, 6);
+    check("a cell in one before it", (const uint8_t[]){0x01, 0x40, 0x01, 0x00, 0x02, 0x70}, 6);
+    check("a cell around one before it", (const uint8_t[]){0x02, 0x70, 0x01, 0x00, 0x01, 0x40}, 6);
+    check("another orientation", (const uint8_t[]){0x01, 0x00, 0x41, 0x00}, 4);
+    check("an old code", (const uint8_t[]){0x01, 0x00, 0x61, 0xC0}, 4);
+    check("a spare bit", (const uint8_t[]){0x21, 0x41}, 2);
+    for (unsigned k = 0; k <= HB_LIST_CODES; k++) {
+        many[3 * k] = 0x05;
+        many[3 * k + 1] = (uint8_t)(k >> 2);
+        many[3 * k + 2] = (uint8_t)(k << 6);
+    }
+    check("512 codes", many, 3 * HB_LIST_CODES);
+    check("512 codes and a byte", many, 3 * HB_LIST_CODES + 1);
+}
+
 /* The polygon of a cell, and the cell that it is read back as. */
 static void polygon(uint8_t resolution, int32_t x, int32_t y, int32_t z)
 {
@@ -365,6 +398,7 @@ int main(void)
     code(4, 1, 3);
     old_code();
     mend();
+    checks();
     folds();
     polygon(0, 0, 0, 0);
     polygon(1, 0, 1, 0);

@@ -36,6 +36,7 @@ static void fold(void) { hb_fold(5, 30, run, 16, run + 16, 32, out, 4); }
 static void unfold(void) { hb_unfold(5, 30, run + 48, 2, run, 64, out, 4); }
 static void mend(void) { hb_mend(bytes, HB_CODE_BYTES, text, HB_ANSWER_BYTES, out, 2); }
 static void mend_step(void) { hb_mend_step(bytes, HB_CODE_BYTES, text, HB_ANSWER_BYTES, out, 3); }
+static void check(void) { hb_check(bytes, HB_CODE_BYTES, out, 2); }
 static void wkt_write(void) { hb_wkt_write(30, -1073741823, 1073741823, 0, polygon, HB_WKT_BYTES, out, 4); }
 static void wkt_read(void) { hb_wkt_read(30, polygon, HB_WKT_BYTES, numbers, 6); }
 static void descend(void) { hb_descend(table, HB_TABLE_NUMBERS, 28, 30, 13, LAST, sums, 3); }
@@ -69,6 +70,7 @@ static const struct {
     {"hb_unfold", unfold, 512},
     {"hb_mend", mend, 512},
     {"hb_mend_step", mend_step, 512},
+    {"hb_check", check, 9216},
     {"hb_wkt_write", wkt_write, 512},
     {"hb_wkt_read", wkt_read, 512},
     {"hb_descend", descend, 512},

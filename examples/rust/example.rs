@@ -88,6 +88,7 @@ mod ffi {
             counts: *mut u64,
             counts_len: usize,
         ) -> u8;
+        pub fn hb_check(list: *const u8, list_len: usize, out: *mut u64, out_len: usize) -> u8;
         pub fn hb_wkt_write(
             resolution: u8,
             x: i32,
@@ -203,6 +204,10 @@ mod haspbarley {
         unsafe {
             ffi::hb_mend_step(rest.as_ptr(), rest.len(), out.as_mut_ptr(), out.len(), counts.as_mut_ptr(), counts.len())
         }
+    }
+
+    pub fn check(list: &[u8], out: &mut [u64]) -> u8 {
+        unsafe { ffi::hb_check(list.as_ptr(), list.len(), out.as_mut_ptr(), out.len()) }
     }
 
     pub fn wkt_write(resolution: u8, [x, y, z]: [i32; 3], text: &mut [u8], out: &mut [u64]) -> u8 {
@@ -368,6 +373,31 @@ fn mend() {
     println!("mended into one byte less: ! {status}, count left {}", counts[0]);
 }
 
+/// The verdict on a treated list.
+fn check(name: &str, list: &[u8]) {
+    const FAULTS: [&str; 5] = ["good", "unsound", "marked", "orientation", "overlap"];
+    let mut verdict = [0; 2];
+    match haspbarley::check(list, &mut verdict) {
+        0 => println!("check {name}: {} {}", FAULTS[verdict[0] as usize], verdict[1]),
+        status => println!("check {name}: ! {status}"),
+    }
+}
+
+/// Lists of UV at resolutions 1 and 2 that are good, and with each fault; and one of more codes than are
+/// checked, beside each other at resolution 5.
+fn checks() {
+    check("none", &[]);
+    check("three apart", &[0x01, 0x00, 0x02, 0x80, 0x01, 0x40]);
+    check("a cell in one before it", &[0x01, 0x40, 0x01, 0x00, 0x02, 0x70]);
+    check("a cell around one before it", &[0x02, 0x70, 0x01, 0x00, 0x01, 0x40]);
+    check("another orientation", &[0x01, 0x00, 0x41, 0x00]);
+    check("an old code", &[0x01, 0x00, 0x61, 0xC0]);
+    check("a spare bit", &[0x21, 0x41]);
+    let many: Vec<u8> = (0..=512u32).flat_map(|k| [0x05, (k >> 2) as u8, (k << 6) as u8]).collect();
+    check("512 codes", &many[..3 * 512]);
+    check("512 codes and a byte", &many[..3 * 512 + 1]);
+}
+
 /// A list of positions at resolution 3 folded, and unfolded again.
 fn fold(name: &str, positions: &[u64]) {
     let (mut pairs, mut back, mut count) = ([0; 128], [0; 64], [0]);
@@ -516,6 +546,7 @@ fn main() {
     code(4, 1, 3);
     old_code();
     mend();
+    checks();
     folds();
     polygon(0, [0, 0, 0]);
     polygon(1, [0, 1, 0]);
