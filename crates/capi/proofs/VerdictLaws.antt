@@ -1,11 +1,10 @@
 -- The verdict on a treated list, by what the checker answers; and a fault's number.
-use mathlib.Core.Path.{_≡_, refl, sym, ap, _∙_}
+use mathlib.Core.Path.{_≡_, ap}
 use mathlib.Core.List.{List}
 use Prim.Native.Nat.{ℕ}
 use Rattle.triple.specs.Lent.{Called}
-use Rattle.triple.specs.Refusals.{told}
 use Rattle.triple.specs.declared.refusal.Refusal.{Refusal}
-use Rattle.triple.specs.Refusals.{numberOf}
+use Rattle.triple.specs.Refusals.{told, numberOf}
 use Rattle.triple.proofs.LentLaws.{call-told, call-refused}
 use Rattle.treated.specs.declared.Fault.{Fault}
 use Rattle.treated.specs.declared.CheckAnswer.{CheckAnswer}
@@ -42,5 +41,3 @@ module _ {f : Fault} where
   number-overlap e = rw e
 
 pub ruleset fault-numbers = (number-unsound, number-marked, number-orientation, number-overlap)
-
-pub ruleset verdicts = (verdict-good, verdict-faulty, verdict-refused)

@@ -2,13 +2,11 @@
 use mathlib.Core.Path.{_≡_, refl}
 use mathlib.Core.Logic.{_↔_, _⊎_, inl, inr, ⊎-elim}
 use mathlib.Core.Bool.{Bool, true, false, _&&_, false≢true}
-use mathlib.Core.List.{[]}
 use Prim.Native.Nat.{ℕ, _-_, _/_, _^_, _≤_}
 use lib.Dec.{leb, eqb}
 use borrow.Author.Tests.{le-leb, eq-eqb, leb-true, eqb-true}
-use Rattle.triple.specs.Refusals.{told}
 use Rattle.code.specs.declared.Reading.{Reading}
-use Rattle.treated.specs.Treated.{contains, good, checkOf}
+use Rattle.treated.specs.Treated.{contains}
 use Rattle.treated.specs.Claims.{Claims}
 use Rattle.treated.proofs.Examples.{good-examples}
 use Rattle.treated.proofs.Claimed.{good-exactly, long-exactly, fault-exactly, first-fault, twice-contains}
