@@ -13,6 +13,7 @@ use lib.Pow.{shl-exact, pow-add, pow-lt}
 use mir.Syntax.{w64}
 use mir.Val.{Fits}
 use borrow.Author.Tests.{lt-ltb, le-leb, eq-eqb, ltb-true, leb-true, eqb-true}
+use Rattle.whole.proofs.Bools.{both-true}
 use Rattle.whole.proofs.Digits.{four-power}
 use Rattle.whole.proofs.Powers.{four-by-shift}
 use Rattle.code.specs.declared.Reading.{Reading}
@@ -68,10 +69,6 @@ module _ (x y : Reading) (order : x .resolution ≤ y .resolution) (shallow : y 
   meets-below : Meets x y → y .s / 4 ^ (y .resolution - x .resolution) ≡ x .s
   unfolding beginning
   meets-below m = meets-block (y .resolution - x .resolution) (30 - y .resolution) (x .s) (y .s) (rw levels (m .0)) (rw levels (m .1))
-
-both-true : (a b : Bool) → (a && b) ≡ true → (a ≡ true) × (b ≡ true)
-both-true true b e = (refl, e)
-both-true false b e = absurd (false≢true e)
 
 either-true : (a b : Bool) → (a || b) ≡ true → (a ≡ true) ⊎ (b ≡ true)
 either-true true b e = inl refl
