@@ -42,9 +42,11 @@ pub data Verdict : Type 0 where
   good : ℕ → Verdict
   faulty : Fault → ℕ → Verdict
 
+-- the most codes that a list may have
 abbrev pub mostCodes : ℕ
 mostCodes = 512
 
+-- a fault stops, and a code that is right goes on
 abbrev pub judged : Judged → (Fault → Told Verdict) → (Reading → Told Verdict) → Told Verdict
 judged (Judged.Wrong f) stop goOn = stop f
 judged (Judged.Right x) stop goOn = goOn x

@@ -37,6 +37,7 @@ pub enum CheckAnswer {
     Refused(Refusal),
 }
 
+// The most codes of a list.
 pub const MOST_CODES: usize = 512;
 
 // Checks a list. Of each cell so far it keeps where its ground starts and ends on the curve at resolution
@@ -83,6 +84,7 @@ fn judge(rest: &[u8], orientation: u8, starts: &[u64], ends: &[u64]) -> Judged
     }
 }
 
+// The same of a code that reads: its mark, its orientation, and where its own ground lies.
 fn judge_reading(x: Reading, orientation: u8, starts: &[u64], ends: &[u64]) -> Judged
     requires { ⌜ (x .resolution ≤ 30) × (x .s < 4 ^ x .resolution) × (length (now starts) ≡ length (now ends)) ⌝ }
     ensures { λ j. ⌜ j ≡ judgeReading orientation (now (starts .entry)) (now (ends .entry)) x ⌝ }
