@@ -1,7 +1,7 @@
 -- The footprint of each forward axiom is the wedge: its spots and the triples in bounds name each other, by linear equations, and have the same corner sums.
 use mathlib.Core.Path.{_≡_, refl, sym, ap, _∙_}
 use mathlib.Core.Bool.{true}
-use Prim.Native.Nat.{ℕ, suc, _+_, _-_, _*_, _^_, _<_, _≤_}
+use Prim.Native.Nat.{ℕ, suc, _+_, _*_, _^_, _<_, _≤_}
 use native.Mathlib.Omega.{arith}
 use lib.IntN.{ℤ, pos, negℤ, _+ℤ_, _-ℤ_}
 use Rattle.whole.proofs.Parts.{up, dn, up-dn, abs-parts}
@@ -18,7 +18,7 @@ use Rattle.turtle.proofs.ScaleLaws.{doubled-a, doubled-b}
 use Rattle.turtle.proofs.CornerLaws.{pair-is, triple-is, good-true}
 use Rattle.a5.specs.Lookup.{_⊖_}
 use Rattle.a5.specs.Inside.Footprints.{before-x, before-y, before-g, skew, wide-x, wide-y, wide-g}
-use Rattle.a5.specs.Inside.Spots.{Spot, spot, In, tripleAt, spotAt}
+use Rattle.a5.specs.Inside.Spots.{Spot, In, tripleAt, spotAt}
 use Rattle.a5.proofs.Places.{base, spotSum, place}
 use Rattle.a5.proofs.FootprintLaws.{spot-is}
 

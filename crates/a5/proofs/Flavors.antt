@@ -5,7 +5,7 @@ use mathlib.Core.List.{List, [], _∷_}
 use Prim.Native.Nat.{ℕ, zero, suc, _+_, _-_, _*_, _/_, _%_, _^_, _<_}
 use native.Mathlib.Omega.{arith}
 use lib.Dec.{T}
-use lib.IntN.{ℤ, pos, negsuc, natAbs}
+use lib.IntN.{ℤ, pos, natAbs}
 use Rattle.whole.proofs.Parts.{abs-parts}
 use Rattle.whole.proofs.View.{View, view, v-pos, v-add, v-neg, eq-by}
 use Rattle.whole.proofs.Digits.{two-power, twice-power}

@@ -13,7 +13,7 @@ use lib.Pow.{split}
 use lib.Seq.{length-take-le, take-length}
 use borrow.Author.Tests.{ltb-false}
 use Rattle.triple.specs.declared.refusal.Refusal.the-variants as Is
-use Rattle.triple.specs.Refusals.{Told, told, refused, _>>=_}
+use Rattle.triple.specs.Refusals.{told}
 use Rattle.triple.specs.Domain.{greatestResolution, greatestOrientation}
 use Rattle.triple.specs.Orientations.{isBackward}
 use Rattle.triple.proofs.OrientationLaws.{place-small}

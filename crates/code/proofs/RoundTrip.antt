@@ -1,6 +1,6 @@
 -- What is written is read back: a code's bytes have the code's bits, and the reader cuts them where the writer joined them.
-use mathlib.Core.Path.{_≡_, refl, sym, ap, _∙_}
-use mathlib.Core.Bool.{Bool, true, false}
+use mathlib.Core.Path.{_≡_, sym, ap, _∙_}
+use mathlib.Core.Bool.{false}
 use mathlib.Core.List.{List, _++_, append-assoc}
 use Prim.Native.Nat.{ℕ, _+_, _-_, _*_, _%_, _^_, _≤_, _<_}
 use native.Mathlib.Nat.{mod-eq-of-lt, zero-mod}
@@ -10,9 +10,8 @@ use lib.ListN.{length, take, drop, replicate, length-append}
 use lib.Seq.{drop-at, drop-drop}
 use borrow.Author.Tests.{le-ltb, lt-leb, ne-eqb, ltb-false, leb-false}
 use Rattle.whole.proofs.Powers.{four-by-shift}
-use Rattle.triple.specs.declared.refusal.Refusal.{Refusal}
 use Rattle.triple.specs.declared.refusal.Refusal.the-variants as Is
-use Rattle.triple.specs.Refusals.{Told, told, refuse}
+use Rattle.triple.specs.Refusals.{told}
 use Rattle.triple.specs.Domain.{greatestResolution, greatestOrientation}
 use Rattle.triple.specs.Orientations.{isBackward}
 use Rattle.triple.specs.Lent.{countOf, afterCall}

@@ -11,9 +11,9 @@ use lib.Seq.{drop-at, drop-drop, length-take-le, split-at}
 use borrow.Author.Tests.{le-ltb, lt-ltb, ltb-false}
 use Rattle.triple.specs.declared.refusal.Refusal.{Refusal}
 use Rattle.triple.specs.declared.refusal.Refusal.the-variants as Is
-use Rattle.triple.specs.Refusals.{Told, told, refused, refuse, numberOf, _>>=_}
+use Rattle.triple.specs.Refusals.{told, refused, numberOf}
 use Rattle.triple.specs.Domain.{greatestResolution, greatestOrientation}
-use Rattle.triple.proofs.RefusalLaws.{never, passed}
+use Rattle.triple.proofs.RefusalLaws.{passed}
 use Rattle.code.specs.declared.Reading.{Reading}
 use Rattle.code.specs.declared.ReadAnswer.{ReadAnswer}
 use Rattle.code.specs.Codes.{bitsOf, valueOf, allBits, codeLength, readingOf, spareOf, looseOf, readOf}

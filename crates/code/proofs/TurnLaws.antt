@@ -8,7 +8,6 @@ use Rattle.triple.specs.Domain.{positionCount}
 use Rattle.triple.specs.Orientations.{isBackward, placeFrom, curvePlace}
 use Rattle.triple.proofs.DomainLaws.{positions-are}
 use Rattle.triple.proofs.OrientationLaws.{six}
-use Rattle.code.specs.declared.Reading.{Reading}
 use Rattle.code.specs.Codes.{codeLength, forwardOf, readingOf}
 
 -- ---- the forward orientation, off its word

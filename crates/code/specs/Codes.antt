@@ -5,7 +5,7 @@ use Prim.Native.Nat.{ℕ, zero, suc, _+_, _-_, _*_, _/_, _%_, _^_, _<_}
 use lib.Dec.{leb, ltb, eqb}
 use lib.ListN.{length, getD, take, drop, replicate}
 use Rattle.triple.specs.declared.refusal.Refusal.the-variants as Is
-use Rattle.triple.specs.Refusals.{Told, told, refused, refuse, _>>=_}
+use Rattle.triple.specs.Refusals.{Told, told, refuse, _>>=_}
 use Rattle.triple.specs.Domain.{inDomain}
 use Rattle.triple.specs.Orientations.{isBackward, curvePlace}
 use Rattle.code.specs.declared.Reading.{Reading}

@@ -1,16 +1,15 @@
 -- A number's exact fraction: its bits give one, what it is above its floor, the exact parity by that, and the triangle that a point lies in.
 use mathlib.Core.Path.{_≡_, refl, sym, ap, ap₂, _∙_, subst}
 use mathlib.Core.Logic.{inl, inr}
-use mathlib.Core.Bool.{Bool, true, false, _&&_, cond, false≢true}
-use Prim.Native.Nat.{ℕ, zero, suc, _+_, _-_, _*_, _/_, _%_, _^_, _≤_, _<_}
+use mathlib.Core.Bool.{Bool, true, false, cond}
+use Prim.Native.Nat.{ℕ, suc, _+_, _-_, _*_, _/_, _%_, _^_, _≤_, _<_}
 use native.Mathlib.Omega.{arith}
-use native.Mathlib.Nat.{one-mul, mul-one, add-zero, mul-comm, mul-assoc, mul-left-comm, mul-pos, mul-le-mul-right, le-of-mul-le-mul-right, lt-of-lt-of-le, lt-of-le-of-lt, add-mul, suc-mul, div-add-mod', mod-lt, mod-le, mod-self, mod-eq-of-lt, eq-zero-or-pos, mul-mod-left, mul-div-cancel, mul-add-mod-self-right, div-eq-of-lt-le}
-use lib.Dec.{T, leb, leb→le, le→leb, lit≤, lit<}
+use native.Mathlib.Nat.{one-mul, add-zero, mul-comm, mul-assoc, mul-left-comm, mul-pos, mul-le-mul-right, le-of-mul-le-mul-right, lt-of-lt-of-le, lt-of-le-of-lt, add-mul, suc-mul, div-add-mod', mod-lt, mod-le, mod-self, mod-eq-of-lt, eq-zero-or-pos, mul-mod-left, mul-div-cancel, mul-add-mod-self-right, div-eq-of-lt-le}
+use lib.Dec.{leb, lit≤, lit<}
 use lib.Arith.{mod-mul}
-use lib.IntN.{ℤ, pos, negsuc, negℤ, natAbs, _+ℤ_, _-ℤ_, _*ℤ_, negℤ-negℤ}
-use lib.Signed.{leZ}
-use lib.Pow.{pow-pos, pow-mono}
-use lib.Ieee.{Float, nan, inf, fin, binary64, up, down, toBits}
+use lib.IntN.{ℤ, pos, negℤ, natAbs, _+ℤ_, _-ℤ_, _*ℤ_, negℤ-negℤ}
+use lib.Pow.{pow-pos}
+use lib.Ieee.{Float, nan, inf, fin, binary64, up, down}
 use lib.Ieee.Fits.{down-pos}
 use lib.Ieee.Exact.{HasValue}
 use lib.Ieee.Positive.{den, den-pos}
@@ -18,12 +17,10 @@ use Rattle.whole.proofs.Bools.{is-true, is-false}
 use Rattle.whole.proofs.View.{View, v-var, v-pos, v-neg, v-add, v-mul-r, eq-by, eq-of, le-by, le-of}
 use Rattle.triple.specs.declared.Triple.{Triple}
 use Rattle.triple.specs.Triples.{sumOf}
-use Rattle.triple.specs.Refusals.{told}
-use Rattle.curve.specs.declared.PointCell.{PointCell}
 use Rattle.curve.specs.declared.exact.Part.{Part}
-use Rattle.curve.specs.Points.{near, floorAt, floor, ownTriple, pointBy}
+use Rattle.curve.specs.Points.{near, floorAt, floor, ownTriple}
 use Rattle.curve.specs.ExactPoints.{reaches, fractionOf, beyond, exactParity, LiesIn}
-use Rattle.curve.specs.Inside.Parts.{restAt, sumReaches, partsReach, Small, PartOf}
+use Rattle.curve.specs.Inside.Parts.{restAt, partsReach, PartOf}
 use Rattle.curve.proofs.FloorLaws.{sign, exponent, digits, bits, plain, leading}
 use Rattle.curve.proofs.PartLaws.{leb-same, sub-mul, rest-small}
 

@@ -11,13 +11,11 @@ use lib.IntN.{ℤ, pos, negsuc, natAbs, _+ℤ_}
 use lib.Signed.{ltZ}
 use mir.Syntax.{w64}
 use mir.Val.{SFits, toZ}
-use Rattle.whole.proofs.TestLaws.{Hold, pass-true, false-pass}
+use Rattle.whole.proofs.TestLaws.{Hold, false-pass}
 use Rattle.whole.proofs.View.{View, rd, v-pos, v-add, v-bits, v-unsigned, v-abs, eq-by, fits, kept}
 use Rattle.triple.specs.declared.refusal.Refusal.the-variants as Is
 use Rattle.triple.specs.Refusals.{told}
-use Rattle.triple.specs.Domain.{greatestResolution}
 use Rattle.triple.specs.Triples.{bounds, inBounds}
-use Rattle.triple.proofs.RefusalLaws.{passed}
 use Rattle.curve.specs.declared.PointCell.{PointCell}
 use Rattle.curve.specs.Points.{floor, parity, clamped, settled, isMoved, ownTriple, markOf, pointBy, pointOf}
 use Rattle.curve.proofs.PointLaws.{settled-whole, settled-in-bounds, by-is, parity-small}

@@ -4,7 +4,7 @@ use mathlib.Core.Bool.{Bool, true, false}
 use Prim.Native.Nat.{ℕ, zero, suc, _+_, _-_, _*_, _/_, _%_, _^_, _≤_, _<_, zero-le}
 use native.Mathlib.Omega.{arith}
 use native.Mathlib.Nat.{one-mul, zero-mul, mul-comm, mul-assoc, mul-right-comm, mul-sub, mul-le-mul-right, mul-lt-mul-of-pos-right, le-of-mul-le-mul-right, le-trans, le-of-eq, le-of-lt, lt-of-lt-of-le, mod-lt, mod-self, mod-eq-of-lt, sub-add-cancel, le-div-iff-mul-le, div-lt-iff-lt-mul}
-use lib.Dec.{T, leb, ltb, leb→le, le→leb, ltb→lt, lt→ltb, lit≤}
+use lib.Dec.{T, leb, ltb, leb→le, le→leb, ltb→lt, lt→ltb}
 use lib.Pow.{pow-pos, pow-mono, pow-add, pow-lt}
 use borrow.Author.Tests.{le-leb, lt-leb}
 use Rattle.curve.specs.declared.exact.Part.{Part}

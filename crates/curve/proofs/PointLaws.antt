@@ -18,7 +18,7 @@ use Rattle.whole.proofs.TestLaws.{true-pass}
 use Rattle.whole.proofs.View.{View, rd, v-pos, v-upto, v-neg, v-add, v-bits, v-unsigned, v-abs, eq-by, le-by, fits, kept}
 use Rattle.triple.specs.declared.Triple.{Triple}
 use Rattle.triple.specs.declared.refusal.Refusal.the-variants as Is
-use Rattle.triple.specs.Refusals.{told, refused, refuse, numberOf}
+use Rattle.triple.specs.Refusals.{told, refused, numberOf}
 use Rattle.triple.specs.Triples.{bounds, inBounds}
 use Rattle.triple.specs.Domain.{greatestResolution, rowCount}
 use Rattle.triple.proofs.DomainLaws.{v-rows}

@@ -5,10 +5,9 @@ use mathlib.Core.Bool.{Bool, true, false, _&&_, cond, true≢false, false≢true
 use Prim.Native.Nat.{ℕ, zero, suc, _+_, _-_, _*_, _/_, _%_, _^_, _≤_, _<_, suc-le-suc, zero-le}
 use native.Mathlib.Omega.{arith}
 use native.Mathlib.Decide.{decLt}
-use native.Mathlib.Nat.{mul-one, mul-comm, mul-assoc, mul-left-comm, mul-right-comm, mul-pos, le-trans, le-of-eq, lt-of-le-of-lt, zero-mul, suc-mul, add-mul, div-add-mod', mod-lt, mod-le, mod-self, mod-eq-of-lt, mod-one, mul-le-mul-right, le-of-mul-le-mul-right, le-of-lt, eq-zero-or-pos, mul-lt-mul-of-pos-right, div-mul-le-self}
-use lib.Dec.{T, ltb, leb, ltb→lt, lt→ltb, leb→le, lit≤, lit<}
+use native.Mathlib.Nat.{mul-one, mul-comm, mul-assoc, mul-left-comm, mul-right-comm, mul-pos, le-trans, le-of-eq, zero-mul, add-mul, div-add-mod', mod-lt, mod-le, mod-self, mod-eq-of-lt, mod-one, mul-le-mul-right, le-of-mul-le-mul-right, eq-zero-or-pos, mul-lt-mul-of-pos-right}
+use lib.Dec.{T, ltb, ltb→lt, lt→ltb, leb→le}
 use lib.IntN.{ℤ, pos, negsuc, negℤ, natAbs}
-use lib.Pow.{pow-pos}
 use lib.Ieee.{Float, nan, inf, fin, Format, binary64, up, down, round, sum, add, sub, neg, le, ofInt, fits}
 use lib.Ieee.Fits.{down-pos}
 use lib.Ieee.Exact.{HasValue}

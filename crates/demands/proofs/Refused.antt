@@ -5,17 +5,17 @@ use mathlib.Core.Logic.{⊎-elim}
 use mathlib.Core.Bool.{Bool, true, false, not, cond, _||_, _&&_, true≢false}
 use mathlib.Core.Option.{Option, some, none}
 use mathlib.Core.List.{List, [], _∷_}
-use Prim.Native.Nat.{ℕ, zero, suc, _+_, _-_, _/_, _^_, _≤_}
+use Prim.Native.Nat.{ℕ, zero, suc, _+_, _/_, _^_, _≤_}
 use native.Mathlib.Omega.{arith}
 use lib.Dec.{T, leb, ltb, eqb}
-use lib.IntN.{ℤ, pos, negℤ}
+use lib.IntN.{ℤ}
 use lib.Ieee.{Float}
 use lib.ListN.{length, getD, take, drop}
 use borrow.Author.Tests.{ltb-false, leb-false, eqb-false, not-false}
 use Rattle.whole.specs.Tests.{Test, pass}
 use Rattle.triple.specs.declared.Triple.{Triple}
 use Rattle.triple.specs.declared.refusal.Refusal.the-variants as Is
-use Rattle.triple.specs.Refusals.{Told, told, refused, numberOf, refuse, _>>=_}
+use Rattle.triple.specs.Refusals.{Told, told, refused, numberOf}
 use Rattle.triple.specs.Triples.{goodSum, inBounds, parityOf, flavorOf}
 use Rattle.triple.specs.Orientations.{isBackward, curvePlace}
 use Rattle.triple.specs.Domain.{domainOf}

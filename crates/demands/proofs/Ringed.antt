@@ -1,6 +1,5 @@
 -- A POLYGON is its cell's and no other's: `polygon`'s laws.
-use mathlib.Core.Path.{_≡_, sym, _∙_, ap}
-use Rattle.triple.specs.Refusals.{told, refused}
+use mathlib.Core.Path.{sym, _∙_, ap}
 use Rattle.polygon.specs.Polygons.{cellOfWkt}
 use Rattle.polygon.proofs.CornerLaws.{corners-sum}
 use Rattle.polygon.proofs.ReadBack.{given-of, export-import-lent, import-export, no-cell-27, outside-5}

@@ -1,7 +1,7 @@
 -- WHY MINUS ONE IS SAFE: every separator's value on the way of a lookup is a multiple of 48 and not 0, which is `a5`'s law of its footprints; the ends are computed.
 use mathlib.Core.Path.{_≡_, refl, sym, ap, _∙_}
 use mathlib.Core.Bool.{Bool, true, false}
-use Prim.Native.Nat.{ℕ, suc, _<_, _≤_}
+use Prim.Native.Nat.{ℕ, _≤_}
 use native.Mathlib.Omega.{arith}
 use lib.IntN.{ℤ, pos, negsuc}
 use lib.Signed.{leZ, _≤ℤ_, _<ℤ_}

@@ -1,12 +1,12 @@
 -- Words of bytes in the form of what the code has in hand: a byte by the range that it is in, and a word's reversal
 -- place by place.
-use mathlib.Core.Path.{_≡_, refl, sym, ap, _∙_}
+use mathlib.Core.Path.{_≡_, sym, ap, _∙_}
 use mathlib.Core.Bool.{Bool, true, false, not, _&&_}
-use mathlib.Core.List.{List, _++_, map}
+use mathlib.Core.List.{List, map}
 use Prim.Native.Nat.{ℕ, _+_, _-_, _≤_, _<_}
 use native.Mathlib.Omega.{arith}
 use lib.Dec.{leb, eqb}
-use lib.ListN.{length, getD, drop, length-reverse, length-map, List·getD-map}
+use lib.ListN.{length, getD, length-reverse, length-map, List·getD-map}
 use borrow.Author.Tests.{leb-true, leb-false, not-true, not-false, le-leb, lt-leb, ne-eqb}
 use Rattle.whole.proofs.Fill.{getD-reverse}
 use Rattle.grammar.specs.Words.{upper, mirrored, reversed}

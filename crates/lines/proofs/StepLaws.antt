@@ -13,7 +13,7 @@ use mir.Val.{SFits, toZ, ofZ}
 use mir.ValLaws.{toZ-ofZ}
 use Rattle.io.specs.Counts.{clamped}
 use Rattle.lines.specs.declared.Stop.{Stop}
-use Rattle.lines.specs.declared.Stop.the-variants.{Piece, Line, Last, End, Failed}
+use Rattle.lines.specs.declared.Stop.the-variants.{Last, End, Failed}
 use Rattle.lines.specs.declared.Exchange.{Exchange}
 use Rattle.lines.specs.Exchanges.{isOver, leftOf, Within, Says, Stopped}
 use Rattle.lines.specs.Inside.Steps.{amid, ended, atEnd, endOf, afterRead, Sound}

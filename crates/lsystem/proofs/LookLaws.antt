@@ -2,7 +2,7 @@
 -- than the place's last digit on the axiom's curve; and the threshold of the bits may be any from -47 to 48.
 use mathlib.Core.Path.{_≡_, refl, sym, ap, _∙_, subst}
 use mathlib.Core.Bool.{true}
-use Prim.Native.Nat.{ℕ, zero, suc, _+_, _-_, _*_, _%_, _^_, _<_, _≤_}
+use Prim.Native.Nat.{ℕ, zero, suc, _+_, _-_, _*_, _%_, _≤_}
 use native.Mathlib.Omega.{arith}
 use lib.IntN.{ℤ}
 use Rattle.triple.specs.declared.Triple.{Triple}
@@ -15,7 +15,7 @@ use Rattle.turtle.specs.declared.AB.{AB}
 use Rattle.turtle.specs.Plane.{origin}
 use Rattle.turtle.specs.Corners.{cornerSum}
 use Rattle.tables.specs.Patterns.{sideThreshold}
-use Rattle.a5.specs.Lookup.{_⊖_, Looks, lookup, AtPicks}
+use Rattle.a5.specs.Lookup.{_⊖_, lookup, AtPicks}
 use Rattle.a5.proofs.Axioms.{first, shift, drawn, drawn-corner}
 use Rattle.a5.proofs.Once.{position, position-small}
 use Rattle.a5.proofs.Separators.{Safe}

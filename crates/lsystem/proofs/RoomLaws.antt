@@ -1,6 +1,6 @@
 -- A walk and a search have room, since a step of three levels takes as much of it as three levels fewer need; and each step leaves the rest to do.
 use mathlib.Core.Path.{_≡_, refl, sym, ap, _∙_, subst}
-use Prim.Native.Nat.{ℕ, zero, suc, _+_, _-_, _*_, _/_, _%_, _^_, _<_, _≤_}
+use Prim.Native.Nat.{ℕ, suc, _+_, _-_, _*_, _/_, _%_, _^_, _<_, _≤_}
 use native.Mathlib.Omega.{arith}
 use native.Mathlib.Nat as N
 use Rattle.whole.proofs.Digits.{four-power}

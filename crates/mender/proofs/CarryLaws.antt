@@ -1,7 +1,7 @@
 -- A walk along a piece: what was written so far is followed by what the rest gives, whatever comes after the piece.
 use mathlib.Core.Bool.{Bool, true, false}
 use mathlib.Core.Path.{_≡_, refl, sym, ap, _∙_}
-use mathlib.Core.List.{List, [], _∷_, _++_, append-assoc, append-nil}
+use mathlib.Core.List.{List, [], _++_, append-assoc, append-nil}
 use Prim.Native.Nat.{ℕ, _+_, _-_, _^_, _<_, _≤_}
 use native.Mathlib.Nat.{le-refl}
 use native.Mathlib.Omega.{arith}
@@ -11,7 +11,7 @@ use mir.Syntax.{w64}
 use mir.Val.{Fits}
 use borrow.Rule.Slice.PartMut.{putMid}
 use Rattle.whole.proofs.Fill.{fronted, length-fronted, fronted-back}
-use Rattle.triple.specs.Refusals.{Told, told, refused}
+use Rattle.triple.specs.Refusals.{told}
 use Rattle.triple.specs.declared.refusal.Refusal.{Refusal}
 use Rattle.triple.specs.Lent.{afterCall}
 use Rattle.triple.proofs.RefusalLaws.{never}

@@ -1,6 +1,6 @@
 -- A step that is answered: its cell is in bounds one resolution below the node's, and its node goes on in the same walk.
 use mathlib.Core.Path.{_≡_, refl, sym, ap, _∙_}
-use mathlib.Core.Bool.{Bool, true, false, not}
+use mathlib.Core.Bool.{true, not}
 use Prim.Native.Nat.{ℕ, _+_}
 use borrow.Author.Tests.{not-false}
 use lib.Dec.{ltb}

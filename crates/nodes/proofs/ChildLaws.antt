@@ -9,7 +9,7 @@ use lib.IntN.{ℤ, pos, _+ℤ_, _-ℤ_, _*ℤ_, natAbs}
 use mir.Syntax.{w8, w32, w64}
 use mir.Val.{Fits, SFits}
 use mir.ValLaws.{toZ-ofZ}
-use Rattle.whole.proofs.View.{View, rd, v-upto, v-within, fits}
+use Rattle.whole.proofs.View.{rd, v-within, fits}
 use Rattle.triple.specs.declared.Triple.{Triple}
 use Rattle.triple.specs.declared.orientation.Recipe.{Recipe}
 use Rattle.triple.specs.declared.refusal.Refusal.{Refusal}
@@ -17,7 +17,6 @@ use Rattle.triple.specs.declared.refusal.Refusal.the-variants as Is
 use Rattle.triple.specs.Refusals.{Told, told, refused, numberOf, refuse}
 use Rattle.triple.specs.Orientations.{axiomMotif, axiomOf, isBackward, recipeOf, placeFrom, curvePlace, movedBy, shifted}
 use Rattle.triple.specs.Triples.{inBounds}
-use Rattle.triple.proofs.DomainLaws.{rows-most}
 use Rattle.triple.proofs.OrientationLaws.{place-below}
 use Rattle.turtle.specs.declared.letter.Flavor.{Flavor}
 use Rattle.turtle.specs.declared.corner.TripleAnswer.{TripleAnswer}

@@ -18,7 +18,7 @@ use Rattle.tables.specs.Table.{stateOf}
 use Rattle.tables.specs.Descent.{childAt}
 use Rattle.lsystem.specs.declared.cell.Cell.{Cell}
 use Rattle.lsystem.specs.declared.Position.{Position}
-use Rattle.lsystem.specs.Cells.{named, positionOf}
+use Rattle.lsystem.specs.Cells.{positionOf}
 use Rattle.a5.specs.A5.{a5}
 use Rattle.a5.specs.A5Table.{a5Table}
 use Rattle.a5.proofs.A5Entries.{child-state}

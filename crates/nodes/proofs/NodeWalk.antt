@@ -12,7 +12,7 @@ use lib.IntN.{ℤ, pos, negsuc, _+ℤ_, _*ℤ_, natAbs}
 use Rattle.whole.proofs.Claims.{Claim, eq, below as belowAll, all, each}
 use Rattle.whole.proofs.Parts.{up, dn, add-parts, mul-up, mul-dn}
 use Rattle.whole.proofs.Floats.{int-back}
-use Rattle.triple.specs.Refusals.{Told, told, _>>=_}
+use Rattle.triple.specs.Refusals.{told, _>>=_}
 use Rattle.triple.specs.Orientations.{axiomMotif, isBackward, placeFrom, curvePlace}
 use Rattle.turtle.specs.declared.letter.Flavor.{Flavor}
 use Rattle.turtle.specs.declared.walk.DrawnCell.{DrawnCell}
@@ -25,7 +25,6 @@ use Rattle.lsystem.proofs.CellCode.{axiom-state, axiom-state-small}
 use Rattle.lsystem.proofs.CellLaws.{axiomIn, drawn-follow, cell-at}
 use Rattle.a5.specs.A5Table.{a5Table}
 use Rattle.a5.proofs.Once.{cell-bounds}
-use Rattle.nodes.specs.declared.Frame.{Frame}
 use Rattle.nodes.specs.declared.descent.Place.{Place}
 use Rattle.nodes.specs.Nodes.{goodFrame, goodNode, canStep, frameStart, frame, axiomFrame, axiomNode, childCell, below, bounded, cellBelow, stepTo, childStepOf, frameAt, nodeAt}
 use Rattle.nodes.specs.NodeAnswers.{axiomNodeOf}

@@ -2,9 +2,9 @@
 use mathlib.Core.Path.{_≡_, refl}
 use mathlib.Core.List.{List, [], _∷_, _++_}
 use Prim.Native.Nat.{ℕ}
-use lib.IntN.{ℤ, pos, negsuc}
+use lib.IntN.{ℤ, pos}
 use Rattle.triple.specs.declared.Triple.{Triple}
-use Rattle.triple.specs.Refusals.{Told, told, refused, numberOf}
+use Rattle.triple.specs.Refusals.{told, refused, numberOf}
 use Rattle.triple.specs.Triples.{inBounds}
 use Rattle.text.specs.Digits.{digitOf}
 use Rattle.text.specs.Decimals.{isDecimal, upTo, signed, digitCount, decimalLength, decimalAt, digits, natural, integer}

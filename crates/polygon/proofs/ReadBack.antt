@@ -2,10 +2,10 @@
 use native.Mathlib.Omega.{arith}
 use mathlib.Core.Path.{_≡_, refl, sym, ap, ap₂, _∙_, subst}
 use mathlib.Core.Logic.{⊎-elim}
-use mathlib.Core.Bool.{Bool, true, false, not, cond, _&&_}
+use mathlib.Core.Bool.{Bool, true, false, not, _&&_}
 use mathlib.Core.List.{List, [], _∷_, _++_, append-assoc}
 use mathlib.Core.Option.{Option, some, none}
-use Prim.Native.Nat.{ℕ, suc, _+_, _≤_, _<_, _^_}
+use Prim.Native.Nat.{ℕ, _+_, _≤_, _<_, _^_}
 use borrow.Author.Tests.{not-false, eq-eqb, eqb-true, le-ltb, ltb-false}
 use lib.Dec.{eqb, ltb}
 use lib.IntN.{ℤ, pos, negsuc, _-ℤ_, _*ℤ_}
@@ -20,7 +20,7 @@ use Rattle.triple.specs.declared.refusal.Refusal.the-variants as Is
 use Rattle.triple.specs.Refusals.{Told, told, refused, refuse, numberOf, _>>=_}
 use Rattle.triple.specs.Triples.{sumOf, goodSum, bounds, inBounds}
 use Rattle.triple.specs.Lent.{countOf, afterCall}
-use Rattle.triple.proofs.RefusalLaws.{never, passed, told-same, stepped}
+use Rattle.triple.proofs.RefusalLaws.{passed, told-same, stepped}
 use Rattle.triple.proofs.LentLaws.{wrote}
 use Rattle.triple.proofs.TripleLaws.{v-row}
 use Rattle.text.specs.Digits.{digitOf}
@@ -31,9 +31,9 @@ use Rattle.turtle.specs.declared.walk.Corners.{Corners}
 use Rattle.turtle.specs.Plane.{ab, _⊕_}
 use Rattle.turtle.specs.Corners.{fits32, ThreeI32}
 use Rattle.turtle.proofs.CornerLaws.{triple-is, narrow-true}
-use Rattle.polygon.specs.Polygons.{opening, comma, closing, evenFrom, oddFrom, cellCorners, cornerText, ringText, polygonText, wktOf, readable, cornerAt, parityFrom, startingAt, narrow, sameText, spelledCell, cellOfWkt}
+use Rattle.polygon.specs.Polygons.{comma, closing, evenFrom, oddFrom, cellCorners, cornerText, ringText, polygonText, wktOf, readable, cornerAt, parityFrom, startingAt, narrow, sameText, spelledCell, cellOfWkt}
 use Rattle.polygon.specs.Inside.Sizes.{Short, TenDigits}
-use Rattle.polygon.proofs.CornerLaws.{sum-cases, even-corners, odd-corners, Digits, corners-digits}
+use Rattle.polygon.proofs.CornerLaws.{sum-cases, even-corners, odd-corners, corners-digits}
 use Rattle.polygon.proofs.ReadLaws.{level, not-level, parity-most, start-good, narrow-told}
 
 -- ---- a corner's text is read back

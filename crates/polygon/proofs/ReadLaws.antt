@@ -2,14 +2,14 @@
 use native.Mathlib.Omega.{arith}
 use mathlib.Core.Path.{_≡_, refl, sym, ap, _∙_}
 use mathlib.Core.Bool.{Bool, true, false, not, cond, _&&_}
-use mathlib.Core.List.{List, [], _∷_, _++_}
+use mathlib.Core.List.{List, [], _∷_}
 use mathlib.Core.Option.{Option, some, none}
 use Prim.Native.Nat.{ℕ, suc, _+_, _≤_, _<_, _^_}
 use native.Mathlib.Numerals.{add-one}
 use borrow.Author.Needs.{sfits-of}
 use borrow.Author.Tests.{not-true, not-false, eq-eqb, ne-eqb, lt-ltb, le-ltb, le-leb}
-use lib.Dec.{ltb, leb, eqb}
-use lib.IntN.{ℤ, pos, negsuc, _+ℤ_, _-ℤ_}
+use lib.Dec.{leb, eqb}
+use lib.IntN.{ℤ, pos, negsuc}
 use lib.Signed.{mag, quotZ}
 use lib.ListN.{length, getD, take, drop, length-append, length-drop, drop-of-length-le}
 use lib.Seq.{drop-cons, length-take-le}
@@ -23,8 +23,8 @@ use Rattle.whole.proofs.TestLaws.{pass-true}
 use Rattle.whole.proofs.View.{view, v-var, v-within, fits, eq-by}
 use Rattle.triple.specs.declared.Triple.{Triple}
 use Rattle.triple.specs.declared.refusal.Refusal.the-variants as Is
-use Rattle.triple.specs.Refusals.{Told, told, refused, refuse, numberOf, _>>=_}
-use Rattle.triple.specs.Triples.{sumOf, goodSum, inBounds}
+use Rattle.triple.specs.Refusals.{Told, told, refused, refuse, numberOf}
+use Rattle.triple.specs.Triples.{goodSum, inBounds}
 use Rattle.triple.specs.Domain.{greatestResolution}
 use Rattle.triple.proofs.RefusalLaws.{never, passed, told-same, stepped}
 use Rattle.text.specs.Decimals.{integer, decimalAt}

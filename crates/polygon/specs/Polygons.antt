@@ -4,7 +4,7 @@ use mathlib.Core.List.{List, [], _∷_, _++_}
 use mathlib.Core.Option.{Option, some, none}
 use Prim.Native.Nat.{ℕ, _+_}
 use lib.Dec.{eqb}
-use lib.IntN.{ℤ, pos, negsuc, _+ℤ_, _-ℤ_}
+use lib.IntN.{pos, negsuc, _+ℤ_, _-ℤ_}
 use lib.Signed.{quotZ}
 use Rattle.whole.specs.Tests.{equal, pass}
 use Rattle.triple.specs.declared.Triple.{Triple}

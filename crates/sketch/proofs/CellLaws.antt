@@ -13,11 +13,10 @@ use Rattle.triple.specs.Orientations.{axiomOf, isBackward, isShifted, placeFrom
 use Rattle.triple.proofs.OrientationLaws.{six, place-small, place-place}
 use Rattle.turtle.specs.declared.AB.{AB}
 use Rattle.turtle.specs.declared.letter.Flavor.{Flavor}
-use Rattle.turtle.specs.declared.letter.Stroke.{Stroke}
 use Rattle.turtle.specs.Plane.{ab, origin, _⊕_, thrice, signed, facing}
 use Rattle.turtle.specs.Corners.{cornerSum, tripleOf}
 use Rattle.turtle.specs.Letters.{toggled}
-use Rattle.turtle.specs.Walk.{Sym, turtle, start, cells, turnedFlavor}
+use Rattle.turtle.specs.Walk.{turtle, start, cells, turnedFlavor}
 use Rattle.turtle.proofs.PlaneLaws.{⊕-idl, thrice-origin}
 use Rattle.turtle.proofs.CornerLaws.{pair-is, corner-sum-near, triple-of-corner-sum}
 use Rattle.turtle.proofs.WordLaws.{placed, cells-from}

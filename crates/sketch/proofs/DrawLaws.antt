@@ -4,7 +4,6 @@ use mathlib.Core.Bool.{Bool, false}
 use mathlib.Core.List.{List, _++_}
 use Prim.Native.Nat.{ℕ, zero, suc, _+_, _*_, _^_, _≤_, _<_}
 use native.Mathlib.Nat as N
-use native.Mathlib.Nat.{zero-add}
 use native.Mathlib.Omega.{arith}
 use borrow.Author.Tests.{le-ltb, lt-ltb, eq-eqb, ne-eqb}
 use lib.IntN.{ℤ}
@@ -13,7 +12,7 @@ use mir.Syntax.{w8, w64}
 use mir.Val.{Fits}
 use Rattle.triple.specs.declared.orientation.Recipe.{Recipe}
 use Rattle.triple.specs.declared.refusal.Refusal.the-variants as Is
-use Rattle.triple.specs.Refusals.{Told, told, refused, numberOf, _>>=_}
+use Rattle.triple.specs.Refusals.{told, refused, numberOf}
 use Rattle.triple.specs.Domain.{positionCount}
 use Rattle.triple.specs.Lent.{countOf, afterCall}
 use Rattle.triple.specs.Orientations.{axiomMotif, axiomOf, isBackward, isShifted, recipeOf}
@@ -27,7 +26,7 @@ use Rattle.grammar.specs.Words.{upper}
 use Rattle.grammar.specs.Curves.{letterCount, strokes}
 use Rattle.tables.specs.Children.{noCell}
 use Rattle.a5.specs.A5.{a5}
-use Rattle.lsystem.specs.Cells.{cellOf, cellValues}
+use Rattle.lsystem.specs.Cells.{cellOf}
 use Rattle.sketch.specs.declared.pen.Pen.{Pen}
 use Rattle.sketch.specs.Drawings.{cellsFrom, drawCall}
 use Rattle.sketch.specs.Inside.Marks.{wordAt, marks}

@@ -1,20 +1,17 @@
 -- A SECOND OPINION: entries 4 s to 4 s + 3 are the cell that s names, which is what the descent over A5's table, as the compiler leaves it in any
 -- part of a lent table, gives at s; and no entry past the last cell is touched.
 use mathlib.Core.Path.{_≡_, refl, sym, ap, _∙_, subst}
-use mathlib.Core.Bool.{cond}
-use mathlib.Core.List.{List, [], _∷_, _++_, append-assoc}
+use mathlib.Core.List.{List, _++_, append-assoc}
 use Prim.Native.Nat.{ℕ, zero, suc, _+_, _-_, _*_, _^_, _≤_, _<_}
 use native.Mathlib.Nat.{add-zero, zero-add}
 use native.Mathlib.Omega.{arith}
-use lib.Dec.{leb}
 use lib.IntN.{ℤ, pos}
 use lib.ListN.{length, take, drop, getD}
 use lib.Seq.{take-at, drop-at}
-use Rattle.triple.specs.declared.Triple.{Triple}
 use Rattle.triple.specs.Refusals.{told}
 use Rattle.triple.specs.Lent.{countOf, afterCall}
 use Rattle.triple.specs.Triples.{closedFlavor}
-use Rattle.triple.specs.Orientations.{axiomMotif, curvePlace, shifted}
+use Rattle.triple.specs.Orientations.{axiomMotif, curvePlace}
 use Rattle.triple.proofs.LentLaws.{whole-count, whole-stored}
 use Rattle.triple.proofs.OrientationLaws.{six, place-small}
 use Rattle.grammar.specs.Curves.{drawing}
@@ -25,7 +22,7 @@ use Rattle.tables.specs.Table.{leafOf, flavorNumber}
 use Rattle.tables.proofs.CompileDetermined.{compiled-draws}
 use Rattle.a5.specs.A5.{a5Text, a5}
 use Rattle.a5.proofs.A5Compiled.{a5-accepted}
-use Rattle.a5.proofs.Axioms.{token, drawn}
+use Rattle.a5.proofs.Axioms.{token}
 use Rattle.a5.proofs.Once.{cell-flavor}
 use Rattle.lsystem.specs.declared.cell.Cell.{Cell}
 use Rattle.lsystem.specs.Cells.{drawnCell, cellOf, cellValues}

@@ -5,7 +5,7 @@ use Prim.Native.Nat.{ℕ, _*_, _^_, _≤_}
 use native.Mathlib.Omega.{arith}
 use native.Mathlib.Nat as N
 use borrow.Author.Tests.{not-true, not-false}
-use lib.IntN.{ℤ, pos, negℤ, _+ℤ_}
+use lib.IntN.{pos, negℤ, _+ℤ_}
 use Rattle.whole.proofs.View.{view, v-upto, le-by}
 use Rattle.turtle.specs.declared.AB.{AB}
 use Rattle.turtle.specs.Plane.{ab, origin}

@@ -1,6 +1,6 @@
 -- Searches by threes: three levels from anywhere are three levels from the tile, and 64 times the digits so far; three bits of two numbers are three pairs of bits; and
 -- the tiles above an axiom's lead to it by any bits.
-use mathlib.Core.Path.{_≡_, refl, sym, ap, _∙_}
+use mathlib.Core.Path.{_≡_, ap, _∙_}
 use mathlib.Core.List.{List, [], _∷_}
 use Prim.Native.Nat.{ℕ, zero, suc, _+_, _-_, _*_, _/_, _%_, _^_, _<_, _≤_}
 use native.Mathlib.Omega.{arith}
@@ -14,7 +14,7 @@ use Rattle.strides.specs.declared.Search.{Search}
 use Rattle.strides.specs.Inside.Sizes.{OnTile}
 use Rattle.strides.specs.Inside.Tiles.{tileWords, entryBelow, tileBelow, digitBelow, lastOf}
 use Rattle.strides.specs.Searches.{onTile, below, turnOf, turnAt, digitsAfter, threeBelow, turnsAt, digitsBelow, searchStep, searchEnd}
-use Rattle.strides.proofs.EntryLaws.{digit-small, below-digits}
+use Rattle.strides.proofs.EntryLaws.{below-digits}
 
 -- ---- from anywhere
 gathered : (s a b c : ℕ) → 64 * s + (4 * (4 * (4 * 0 + a) + b) + c) ≡ 4 * (4 * (4 * s + a) + b) + c

@@ -21,7 +21,6 @@ use Rattle.a5.proofs.FootprintChecks.{down, Triangle, Ends, over, over-at, pick
 use Rattle.a5.proofs.FootprintLaws.{spot-is, coarse-ends, coarse-triangle, own-ends, own-triangle, moved-back, back-in, leaf-found}
 use Rattle.a5.proofs.Axioms.{Axiom, axiomA, axiomC, axiomB, first, shape, axiom-in}
 use Rattle.a5.proofs.Once.{position}
-use Rattle.strides.specs.declared.Search.{Search}
 use Rattle.strides.specs.Inside.Tiles.{kinds, tileOf, tileWords, entryBelow, tileBelow, digitBelow, lastOf}
 use Rattle.strides.specs.Searches.{onTile, below, turnOf, turnAt, digitsAfter}
 use Rattle.strides.proofs.WalkLaws.{order}

@@ -1,12 +1,10 @@
 -- Walks by threes: three levels from anywhere are three levels from the beginning of the row, and eight times where it was; the rows above an axiom lead to it by any
 -- digits; and a walk from the axiom ends where A5's walk does.
 use mathlib.Core.Path.{_≡_, refl, sym, ap, _∙_}
-use mathlib.Core.List.{[], _∷_}
 use Prim.Native.Nat.{ℕ, zero, suc, _+_, _-_, _*_, _/_, _%_, _^_, _<_, _≤_}
 use native.Mathlib.Omega.{arith}
 use native.Mathlib.Nat as N
 use borrow.Author.Tests.{lt-ltb}
-use lib.ListN.{getD}
 use Rattle.whole.proofs.Digits.{twice-power}
 use Rattle.a5.specs.Lookup.{childState}
 use Rattle.a5.specs.Inside.Footprints.{at-x, at-y, leaf-x, leaf-y, leafFlavor}
@@ -16,7 +14,7 @@ use Rattle.strides.specs.declared.Walk.{Walk}
 use Rattle.strides.specs.declared.End.{End}
 use Rattle.strides.specs.Inside.Sizes.{OnRow}
 use Rattle.strides.specs.Walks.{stateIn, rowBelow, beginX, beginY, onRow, down, atLeaf, endAfter, threeDown, endBelow, walkStep, walkEnd}
-use Rattle.strides.proofs.Rows.{state-of, axiom-of, state-small, in-row, in-x, in-y, above-row, above-x, above-y, child-small, rowed, three-x, three-y, three-row, three-whole, end-x, end-y}
+use Rattle.strides.proofs.Rows.{state-of, in-row, in-x, in-y, above-row, above-x, above-y, child-small, rowed, three-x, three-y, three-row, three-whole, end-x, end-y}
 
 -- ---- from anywhere
 eightfold : (x a b c : ℕ) → 8 * x + (2 * (2 * (2 * 0 + a) + b) + c) ≡ 2 * (2 * (2 * x + a) + b) + c

@@ -3,7 +3,6 @@ use mathlib.Core.Path.{_≡_}
 use mathlib.Core.Bool.{true, false}
 use mathlib.Core.List.{List, [], _∷_}
 use lib.Dec.{T}
-use lib.IntN.{ℤ}
 use lib.Signed.{leZ, _≤ℤ_, leZ-yes}
 use Rattle.whole.specs.Tests.{Test, _≤?_, pass}
 use Rattle.whole.proofs.Bools.{both-left, both-right, both, is-true, is-false, from-true}

@@ -1,9 +1,8 @@
 -- A row cut at its spaces, and the first row of a text, by the places of the bytes that they are cut at.
 use mathlib.Core.Path.{_≡_}
-use mathlib.Core.Bool.{true, false, cond}
-use mathlib.Core.List.{List, [], _∷_}
+use mathlib.Core.Bool.{true, false}
+use mathlib.Core.List.{List, _∷_}
 use Prim.Native.Nat.{ℕ, suc, _+_, _-_, _≤_, _<_}
-use lib.Dec.{eqb}
 use lib.ListN.{length, getD, take, drop}
 use Rattle.grammar.specs.declared.scan.Shape.{Shape}
 use Rattle.grammar.specs.Texts.{Row, shaped, lineOf, rowsOf}

@@ -4,7 +4,6 @@ use mathlib.Core.List.{List}
 use Prim.Native.Nat.{ℕ, _≤_}
 use lib.ListN.{length}
 use Rattle.triple.specs.Refusals.{told}
-use Rattle.code.specs.declared.Reading.{Reading}
 use Rattle.code.specs.Codes.{codeLength, codeBytes, codeOf}
 use Rattle.mend.specs.declared.Change.the-variants.{Kept, Dropped}
 use Rattle.mend.specs.declared.Stepped.{Stepped}

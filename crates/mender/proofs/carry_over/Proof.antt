@@ -2,7 +2,6 @@
 use mathlib.Core.Path.{_≡_}
 use native.Mathlib.Omega.{arith}
 use lib.ListN.{length}
-use borrow.Author.Needs.{needs}
 use Rattle.mender.proofs.carry_over.Statement.{statement}
 use Rattle.mender.proofs.carry_over.Tie as tie
 

@@ -2,7 +2,7 @@
 use mathlib.Core.Bool.{Bool}
 use Prim.Native.Nat.{ℕ, zero, suc, _+_, _*_, _/_, _%_, _^_, _<_, _≤_}
 use lib.Dec.{eqb}
-use lib.IntN.{ℤ, pos, _+ℤ_, _*ℤ_, natAbs}
+use lib.IntN.{pos, _+ℤ_, _*ℤ_, natAbs}
 use Rattle.triple.specs.Refusals.{Told, told, _>>=_}
 use Rattle.triple.specs.Orientations.{movedBy}
 use Rattle.turtle.specs.declared.AB.{AB}

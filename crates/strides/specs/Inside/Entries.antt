@@ -1,8 +1,5 @@
 -- How the tables' entries are packed.
 use Prim.Native.Nat.{ℕ, _+_, _*_}
-use Rattle.strides.specs.declared.Walk.{Walk}
-use Rattle.strides.specs.declared.End.{End}
-use Rattle.strides.specs.declared.Search.{Search}
 use Rattle.strides.specs.Walks.{walkStep, walkEnd}
 use Rattle.strides.specs.Searches.{searchStep, searchEnd}
 

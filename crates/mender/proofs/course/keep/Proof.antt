@@ -1,9 +1,6 @@
 -- `course::keep`: a byte that is read is not yet written over, since it stands no earlier than where it goes.
-use Prim.Native.Nat.{_-_, _≤_}
-use mathlib.Core.Path.{_≡_}
-use lib.ListN.{length, drop}
+use Prim.Native.Nat.{_-_}
 use borrow.Author.Needs.{needs}
-use Rattle.whole.proofs.Fill.{poured}
 use Rattle.mender.proofs.KeepLaws.{Kept, keeping}
 use Rattle.mender.proofs.course.keep.Statement.{statement}
 use Rattle.mender.proofs.course.keep.Tie as tie

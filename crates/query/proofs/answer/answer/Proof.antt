@@ -1,6 +1,6 @@
 -- `answer::answer`: each kind of query by its own function.
 use borrow.Author.Needs.{needs}
-use mathlib.Core.Path.{_≡_, refl, sym, ap, _∙_}
+use mathlib.Core.Path.{sym, ap, _∙_}
 use Rattle.query.specs.Queries.{answerOf}
 use Rattle.query.proofs.answer.answer.Statement.{statement}
 use Rattle.query.proofs.answer.answer.Tie as tie

@@ -1,6 +1,6 @@
 -- `answer::answer_line`: what the line's query finds is printed, or the line's refusal.
 use borrow.Author.Needs.{needs}
-use mathlib.Core.Path.{_≡_, refl, sym, ap, _∙_}
+use mathlib.Core.Path.{ap}
 use Rattle.query.specs.Answers.{saidQuery}
 use Rattle.query.proofs.AnswerLaws.{line-told, line-refused, printed-as}
 use Rattle.query.proofs.answer.answer_line.Statement.{statement}

@@ -1,6 +1,6 @@
 -- `answer::cell_found`: the cell that is told, or the refusal.
 use borrow.Author.Needs.{needs}
-use mathlib.Core.Path.{_≡_, refl, sym, ap, _∙_}
+use mathlib.Core.Path.{refl, ap}
 use Rattle.triple.specs.Refusals.{told}
 use Rattle.lsystem.specs.Answers.{saidCell}
 use Rattle.query.specs.declared.Found.{Found}
