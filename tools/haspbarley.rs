@@ -13,8 +13,8 @@ extern "C" {
     fn hb_child(o: u8, r: u8, motif: i32, flip: i32, a: f64, b: f64, digit: u8, out_i: *mut i32, len_i: usize, out_f: *mut f64, len_f: usize) -> u8;
     fn hb_node(o: u8, r: u8, x: i32, y: i32, z: i32, out_i: *mut i32, len_i: usize, out_f: *mut f64, len_f: usize) -> u8;
     fn hb_line(line: *const u8, line_len: usize, text: *mut u8, text_len: usize, out: *mut u64, len: usize) -> u8;
-    fn hb_descend(table: *const i32, table_len: usize, states: u64, passes: u8, token: u64, s: u64, out: *mut i64, len: usize) -> u8;
-    fn hb_compile(text: *const u8, text_len: usize, table: *mut i32, table_len: usize, out: *mut u64, len: usize) -> u16;
+    fn hb_descend(table: *const i32, table_len: usize, start: u64, states: u64, passes: u8, token: u64, s: u64, out: *mut i64, len: usize) -> u8;
+    fn hb_compile(text: *const u8, text_len: usize, table: *mut i32, table_len: usize, start: u64, out: *mut u64, len: usize) -> u16;
 }
 
 fn told<T>(status: u8, values: T) -> Result<T, u8> {
@@ -113,16 +113,16 @@ pub fn line(line: &[u8], text: &mut [u8]) -> Result<usize, u8> {
     told(status, out[0] as usize)
 }
 
-// a b flavor
-pub fn descend(table: &[i32], states: u64, passes: u8, token: u64, s: u64) -> Result<[i64; 3], u8> {
+// a b flavor, in the part of a table that has so many states from an entry on
+pub fn descend(table: &[i32], start: u64, states: u64, passes: u8, token: u64, s: u64) -> Result<[i64; 3], u8> {
     let mut out = [0; 3];
-    told(unsafe { hb_descend(table.as_ptr(), table.len(), states, passes, token, s, out.as_mut_ptr(), 3) }, out)
+    told(unsafe { hb_descend(table.as_ptr(), table.len(), start, states, passes, token, s, out.as_mut_ptr(), 3) }, out)
 }
 
-// The number of states, the table written; or the refusal's number, and with it the line at fault.
-pub fn compile(text: &[u8], table: &mut [i32]) -> Result<u64, (u8, u64)> {
+// The number of states, the table written from an entry on; or the refusal's number, and with it the line at fault.
+pub fn compile(text: &[u8], table: &mut [i32], start: u64) -> Result<u64, (u8, u64)> {
     let mut out = [0];
-    match unsafe { hb_compile(text.as_ptr(), text.len(), table.as_mut_ptr(), table.len(), out.as_mut_ptr(), 1) } {
+    match unsafe { hb_compile(text.as_ptr(), text.len(), table.as_mut_ptr(), table.len(), start, out.as_mut_ptr(), 1) } {
         0 => Ok(out[0]),
         status => Err((status as u8, (status >> 8) as u64)),
     }

@@ -265,11 +265,11 @@ static void write_by_hand(void)
         }
 }
 
-static void descend(uint64_t states, uint8_t passes, uint64_t token, uint64_t s)
+static void descend(uint64_t start, uint64_t states, uint8_t passes, uint64_t token, uint64_t s)
 {
     int64_t out[3] = {0};
-    printf("descend %" PRIu64 " %d %" PRIu64 " %" PRIu64 ":", states, passes, token, s);
-    uint8_t status = hb_descend(by_hand, 4 * HB_STATE_NUMBERS, states, passes, token, s, out, 3);
+    printf("descend %" PRIu64 " %" PRIu64 " %d %" PRIu64 " %" PRIu64 ":", start, states, passes, token, s);
+    uint8_t status = hb_descend(by_hand, 4 * HB_STATE_NUMBERS, start, states, passes, token, s, out, 3);
     if (status != HB_OK)
         printf(" ! %d\n", status);
     else
@@ -283,13 +283,39 @@ static void compile(const char *name, const char *text, uint8_t passes, uint64_t
     uint64_t states[1] = {7};
     int64_t out[3] = {0};
     printf("compile %s:", name);
-    uint16_t status = hb_compile((const uint8_t *)text, strlen(text), table, HB_TABLE_NUMBERS, states, 1);
+    uint16_t status = hb_compile((const uint8_t *)text, strlen(text), table, HB_TABLE_NUMBERS, 0, states, 1);
     if (status != HB_OK) {
         printf(" ! %d at line %d, left %" PRIu64 "\n", HB_REFUSAL(status), HB_FAULT_LINE(status), states[0]);
         return;
     }
-    status = hb_descend(table, HB_TABLE_NUMBERS, states[0], passes, 0, s, out, 3);
+    status = hb_descend(table, HB_TABLE_NUMBERS, 0, states[0], passes, 0, s, out, 3);
     printf(" %" PRIu64 " states, place %" PRIu64 ": %d, %" PRId64 " %" PRId64 " %" PRId64 "\n", states[0], s, status, out[0], out[1], out[2]);
+}
+
+#define A5                                                                   \
+    "A PQAB E\nB B+++PQ---A +e-\nC P---RMb+++ -e+\nM qQ+++C---b T\n"         \
+    "P PpB---B+++ S\nQ PQ---Cb+++ D\nR b+++a---qQ +++D---\n"
+
+/* A partner's grammar behind ours in one table, and the cell at place 3 of what the first motif of each
+ * draws with two passes. One entry further on, the partner's last state would end past the table. */
+static void share(const char *theirs)
+{
+    enum { START = 28 * HB_STATE_NUMBERS, LENGTH = 36 * HB_STATE_NUMBERS };
+    static int32_t table[LENGTH];
+    uint64_t states[1] = {0};
+    int64_t out[3] = {0};
+    hb_compile((const uint8_t *)theirs, strlen(theirs), table, LENGTH, START, states, 1);
+    hb_descend(table, LENGTH, START, states[0], 2, 0, 3, out, 3);
+    printf("share, theirs: %" PRIu64 " states, %" PRId64 " %" PRId64 " %" PRId64 "\n", states[0], out[0], out[1], out[2]);
+    hb_compile((const uint8_t *)A5, strlen(A5), table, LENGTH, 0, states, 1);
+    hb_descend(table, LENGTH, 0, states[0], 2, 0, 3, out, 3);
+    printf("share, ours: %" PRIu64 " states, %" PRId64 " %" PRId64 " %" PRId64 "\n", states[0], out[0], out[1], out[2]);
+    hb_descend(table, LENGTH, START, 8, 2, 0, 3, out, 3);
+    printf("share, theirs again: %" PRId64 " %" PRId64 " %" PRId64 "\n", out[0], out[1], out[2]);
+    uint16_t status = hb_compile((const uint8_t *)theirs, strlen(theirs), table, LENGTH, START + 1, states, 1);
+    printf("share, one entry further on: ! %d\n", HB_REFUSAL(status));
+    status = hb_compile((const uint8_t *)theirs, strlen(theirs), table, LENGTH, START, NULL, 0);
+    printf("share, with no place for the number: ! %d\n", HB_REFUSAL(status));
 }
 
 /* A list of positions at resolution 3 folded, and unfolded again. */
@@ -407,19 +433,20 @@ int main(void)
     read_polygon(1, "POLYGON ((0 0, 4 -4, 4 0, 0 0)) ");
     read_polygon(1, "POLYGON ((4 -4, 4 0, 0 0, 4 -4))");
     write_by_hand();
-    descend(4, 1, 0, 3);
-    descend(4, 2, 1, 6);
-    descend(4, 30, 0, (UINT64_C(1) << 60) - 1);
-    descend(4, 2, 0, 16);
-    descend(8, 2, 0, 16);
-    descend(8, 0, 0, 16);
-    compile("A5",
-            "A PQAB E\nB B+++PQ---A +e-\nC P---RMb+++ -e+\nM qQ+++C---b T\n"
-            "P PpB---B+++ S\nQ PQ---Cb+++ D\nR b+++a---qQ +++D---\n",
-            2, 3);
+    descend(0, 4, 1, 0, 3);
+    descend(0, 4, 2, 1, 6);
+    descend(0, 4, 30, 0, (UINT64_C(1) << 60) - 1);
+    descend(0, 4, 2, 0, 16);
+    descend(0, 4, 2, 2, 16);
+    descend(0, 4, 0, 2, 16);
+    descend(1, 4, 0, 2, 16);
+    descend(UINT64_MAX, 4, 0, 2, 16);
+    descend(0, UINT64_MAX, 0, 2, 16);
+    compile("A5", A5, 2, 3);
     compile("a motif that does not split", "A A+++A---AA E\n", 1, 0);
     compile("a motif listed twice", "A AAAA E\nA AAAA E\n", 1, 0);
     compile("nothing", "", 1, 0);
+    share("C cc+++A---A ++t--\nA +++cccc+++ ++e--\n");
     refused();
     return 0;
 }

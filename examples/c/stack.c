@@ -39,8 +39,8 @@ static void mend_step(void) { hb_mend_step(bytes, HB_CODE_BYTES, text, HB_ANSWER
 static void check(void) { hb_check(bytes, HB_CODE_BYTES, out, 2); }
 static void wkt_write(void) { hb_wkt_write(30, -1073741823, 1073741823, 0, polygon, HB_WKT_BYTES, out, 4); }
 static void wkt_read(void) { hb_wkt_read(30, polygon, HB_WKT_BYTES, numbers, 6); }
-static void descend(void) { hb_descend(table, HB_TABLE_NUMBERS, 28, 30, 13, LAST, sums, 3); }
-static void compile(void) { hb_compile((const uint8_t *)A5, sizeof A5 - 1, table, HB_TABLE_NUMBERS, out, 4); }
+static void descend(void) { hb_descend(table, HB_TABLE_NUMBERS, 0, 28, 30, 13, LAST, sums, 3); }
+static void compile(void) { hb_compile((const uint8_t *)A5, sizeof A5 - 1, table, HB_TABLE_NUMBERS, 0, out, 4); }
 
 static void line(void)
 {

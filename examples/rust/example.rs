@@ -103,6 +103,7 @@ mod ffi {
         pub fn hb_descend(
             table: *const i32,
             table_len: usize,
+            start: u64,
             states: u64,
             passes: u8,
             token: u64,
@@ -115,6 +116,7 @@ mod ffi {
             text_len: usize,
             table: *mut i32,
             table_len: usize,
+            start: u64,
             out: *mut u64,
             out_len: usize,
         ) -> u16;
@@ -218,17 +220,25 @@ mod haspbarley {
         unsafe { ffi::hb_wkt_read(resolution, text.as_ptr(), text.len(), out.as_mut_ptr(), out.len()) }
     }
 
-    pub fn compile(text: &[u8], table: &mut [i32], out: &mut [u64]) -> u16 {
-        unsafe {
-            ffi::hb_compile(text.as_ptr(), text.len(), table.as_mut_ptr(), table.len(), out.as_mut_ptr(), out.len())
-        }
+    pub fn compile(text: &[u8], table: &mut [i32], start: u64, out: &mut [u64]) -> u16 {
+        let (n, room) = (table.len(), out.len());
+        unsafe { ffi::hb_compile(text.as_ptr(), text.len(), table.as_mut_ptr(), n, start, out.as_mut_ptr(), room) }
     }
 
-    pub fn descend(table: &[i32], states: u64, passes: u8, token: u64, s: u64, out: &mut [i64]) -> u8 {
-        let (n, room) = (table.len(), out.len());
-        unsafe { ffi::hb_descend(table.as_ptr(), n, states, passes, token, s, out.as_mut_ptr(), room) }
+    /// So many states of a table, from an entry on.
+    #[derive(Clone, Copy)]
+    pub struct Part {
+        pub start: u64,
+        pub states: u64,
+    }
+
+    pub fn descend(table: &[i32], part: Part, passes: u8, token: u64, s: u64, out: &mut [i64]) -> u8 {
+        let (n, room, Part { start, states }) = (table.len(), out.len(), part);
+        unsafe { ffi::hb_descend(table.as_ptr(), n, start, states, passes, token, s, out.as_mut_ptr(), room) }
     }
 }
+
+use haspbarley::Part;
 
 fn gives<T: ToString>(status: u8, values: &[T]) -> String {
     match status {
@@ -459,22 +469,44 @@ fn by_hand() -> [i32; 4 * 41] {
     table
 }
 
-fn descend(table: &[i32], states: u64, passes: u8, token: u64, s: u64) {
+fn descend(table: &[i32], start: u64, states: u64, passes: u8, token: u64, s: u64) {
     let mut out = [0; 3];
-    let status = haspbarley::descend(table, states, passes, token, s, &mut out);
-    println!("descend {states} {passes} {token} {s}: {}", gives(status, &out));
+    let status = haspbarley::descend(table, Part { start, states }, passes, token, s, &mut out);
+    println!("descend {start} {states} {passes} {token} {s}: {}", gives(status, &out));
 }
 
 /// A grammar's text compiled, and the cell at a place of what its first motif draws.
 fn compile(name: &str, text: &str, passes: u8, s: u64) {
     let (mut table, mut states, mut out) = ([0; 32 * 41], [7], [0; 3]);
-    let status = haspbarley::compile(text.as_bytes(), &mut table, &mut states);
+    let status = haspbarley::compile(text.as_bytes(), &mut table, 0, &mut states);
     if status != 0 {
         println!("compile {name}: ! {} at line {}, left {}", status & 0xFF, status >> 8, states[0]);
         return;
     }
-    let status = haspbarley::descend(&table, states[0], passes, 0, s, &mut out);
+    let status = haspbarley::descend(&table, Part { start: 0, states: states[0] }, passes, 0, s, &mut out);
     println!("compile {name}: {} states, place {s}: {status}, {}", states[0], gives(0, &out));
+}
+
+const A5: &str = "A PQAB E\nB B+++PQ---A +e-\nC P---RMb+++ -e+\nM qQ+++C---b T\n\
+                  P PpB---B+++ S\nQ PQ---Cb+++ D\nR b+++a---qQ +++D---\n";
+
+/// A partner's grammar behind ours in one table, and the cell at place 3 of what the first motif of each
+/// draws with two passes. One entry further on, the partner's last state would end past the table.
+fn share(theirs: &str) {
+    let (behind, mut table, mut states, mut out) = (28 * 41, [0; 36 * 41], [0], [0; 3]);
+    haspbarley::compile(theirs.as_bytes(), &mut table, behind, &mut states);
+    let partner = Part { start: behind, states: states[0] };
+    haspbarley::descend(&table, partner, 2, 0, 3, &mut out);
+    println!("share, theirs: {} states, {}", states[0], gives(0, &out));
+    haspbarley::compile(A5.as_bytes(), &mut table, 0, &mut states);
+    haspbarley::descend(&table, Part { start: 0, states: states[0] }, 2, 0, 3, &mut out);
+    println!("share, ours: {} states, {}", states[0], gives(0, &out));
+    haspbarley::descend(&table, partner, 2, 0, 3, &mut out);
+    println!("share, theirs again: {}", gives(0, &out));
+    let status = haspbarley::compile(theirs.as_bytes(), &mut table, behind + 1, &mut states);
+    println!("share, one entry further on: ! {}", status & 0xFF);
+    let status = haspbarley::compile(theirs.as_bytes(), &mut table, behind, &mut []);
+    println!("share, with no place for the number: ! {}", status & 0xFF);
 }
 
 /// A refused call leaves what it was lent as it was.
@@ -555,21 +587,19 @@ fn main() {
     read_polygon(1, "POLYGON ((0 0, 4 -4, 4 0, 0 0)) ");
     read_polygon(1, "POLYGON ((4 -4, 4 0, 0 0, 4 -4))");
     let table = by_hand();
-    descend(&table, 4, 1, 0, 3);
-    descend(&table, 4, 2, 1, 6);
-    descend(&table, 4, 30, 0, (1 << 60) - 1);
-    descend(&table, 4, 2, 0, 16);
-    descend(&table, 8, 2, 0, 16);
-    descend(&table, 8, 0, 0, 16);
-    compile(
-        "A5",
-        "A PQAB E\nB B+++PQ---A +e-\nC P---RMb+++ -e+\nM qQ+++C---b T\n\
-         P PpB---B+++ S\nQ PQ---Cb+++ D\nR b+++a---qQ +++D---\n",
-        2,
-        3,
-    );
+    descend(&table, 0, 4, 1, 0, 3);
+    descend(&table, 0, 4, 2, 1, 6);
+    descend(&table, 0, 4, 30, 0, (1 << 60) - 1);
+    descend(&table, 0, 4, 2, 0, 16);
+    descend(&table, 0, 4, 2, 2, 16);
+    descend(&table, 0, 4, 0, 2, 16);
+    descend(&table, 1, 4, 0, 2, 16);
+    descend(&table, u64::MAX, 4, 0, 2, 16);
+    descend(&table, 0, u64::MAX, 0, 2, 16);
+    compile("A5", A5, 2, 3);
     compile("a motif that does not split", "A A+++A---AA E\n", 1, 0);
     compile("a motif listed twice", "A AAAA E\nA AAAA E\n", 1, 0);
     compile("nothing", "", 1, 0);
+    share("C cc+++A---A ++t--\nA +++cccc+++ ++e--\n");
     refused();
 }
