@@ -12,6 +12,9 @@ use rules::verdict;
 use rust::{descent, rows, Given, A5};
 use shared::Random;
 
+// The entries of the program's table.
+const ROOM: u64 = 2048;
+
 fn word(text: &str) -> String {
     text.replace(' ', "_").replace('\n', "/")
 }
@@ -20,21 +23,29 @@ fn numbers(values: &[i32]) -> String {
     values.iter().map(|v| v.to_string()).collect::<Vec<_>>().join(" ")
 }
 
-// Every state, and places at random: the drawing up to 5 passes, the Rust's descent after that.
+// Every state, from the table's beginning and from an entry at random, and places at random: the drawing up
+// to 5 passes, the Rust's descent after that. Then from the last entry that has the room, and past it.
 fn good(random: &mut Random, text: &str) {
     let given = Given::new(text);
     let rust = given.compile().unwrap();
     let table = rows(&rust);
     let states = table.len() / 41;
+    let last = ROOM - table.len() as u64;
     for k in 0..states {
-        println!("G {k} {}\t{states} {}", word(text), numbers(&table[41 * k..41 * k + 41]));
+        let at = [0, random.below(last + 1)][k % 2];
+        println!("G {at} {k} {}\t{states} {}", word(text), numbers(&table[41 * k..41 * k + 41]));
+    }
+    println!("G {last} {} {}\t{states} {}", states - 1, word(text), numbers(&table[41 * states - 41..]));
+    for at in [last + 1, ROOM, ROOM + 1, u64::MAX - 41 * states as u64 + 1, u64::MAX] {
+        println!("G {at} 0 {}\t! 26", word(text));
     }
     for k in 0..40u8 {
         let passes = 1 + (k % 30);
         let token = random.below(states as u64 / 2) as usize;
         let s = random.below(1 << (2 * passes));
         let [a, b, flavor] = if passes <= 5 { given.drawing(token, passes as usize)[s as usize] } else { descent(&rust, passes as usize, token, s) };
-        println!("D {states} {passes} {token} {s} {}\t{a} {b} {flavor}", word(text));
+        let at = random.below(last + 1) * (k as u64 % 2);
+        println!("D {at} {at} {states} {passes} {token} {s} {}\t{a} {b} {flavor}", word(text));
     }
 }
 
@@ -42,12 +53,16 @@ fn good(random: &mut Random, text: &str) {
 fn bad(number: Option<u8>, text: &str) {
     let (n, line) = verdict(text.as_bytes()).unwrap();
     assert!(number.map_or(true, |m| m == n), "{text:?}: {n}");
-    println!("G 0 {}\t! {n} {line}", word(text));
-    println!("D 4 31 0 0 {}\t! {n} {line}", word(text));
+    println!("G 0 0 {}\t! {n} {line}", word(text));
+    println!("D {} {} 4 31 0 0 {}\t! {n} {line}", u64::MAX, u64::MAX, word(text));
 }
 
-// What following a table gives, if it can be read.
-fn followed(table: &[i32], states: u64, passes: u8, token: u64, s: u64) -> Result<[i64; 3], u8> {
+// What following a part of a table gives, if it can be read.
+fn followed(table: &[i32], start: u64, states: u64, passes: u8, token: u64, s: u64) -> Result<[i64; 3], u8> {
+    if start as u128 + 41 * states as u128 > table.len() as u128 {
+        return Err(26);
+    }
+    let table = &table[start as usize..];
     if passes == 0 || passes > 30 {
         return Err(1);
     }
@@ -56,7 +71,7 @@ fn followed(table: &[i32], states: u64, passes: u8, token: u64, s: u64) -> Resul
             && part[4..20].iter().all(|v| (-4096..=4096).contains(v))
             && part[20..24].iter().all(|f| (0..=3).contains(f))
     };
-    let count = states % 4 == 0 && (4..=32).contains(&states) && states as usize * 41 <= table.len();
+    let count = states % 4 == 0 && (4..=32).contains(&states);
     if !count || token >= states / 2 || !table.chunks(41).take(states as usize).all(readable) {
         return Err(22);
     }
@@ -75,18 +90,24 @@ fn followed(table: &[i32], states: u64, passes: u8, token: u64, s: u64) -> Resul
     Ok([3 * a + part[12 + 2 * digit] as i64, 3 * b + part[13 + 2 * digit] as i64, part[20 + digit] as i64])
 }
 
-// A descent over a text's table with some entries changed.
-fn changed(text: &str, [states, passes, token, s]: [u64; 4], changes: &[(usize, i32)]) {
-    let mut table = rows(&Given::new(text).compile().unwrap());
-    let mut line = format!("D {states} {passes} {token} {s} {}", word(text));
+// A descent over a text's table, from an entry on, with some entries changed.
+fn changed_at(text: &str, at: u64, start: u64, [states, passes, token, s]: [u64; 4], changes: &[(usize, i32)]) {
+    let mut table = vec![0; at as usize];
+    table.extend(rows(&Given::new(text).compile().unwrap()));
+    let mut line = format!("D {at} {start} {states} {passes} {token} {s} {}", word(text));
     for (place, value) in changes {
         table[*place] = *value;
         line += &format!(" {place} {value}");
     }
-    match followed(&table, states, passes as u8, token, s) {
+    match followed(&table, start, states, passes as u8, token, s) {
         Ok([a, b, flavor]) => println!("{line}\t{a} {b} {flavor}"),
         Err(n) => println!("{line}\t! {n}"),
     }
+}
+
+// The same from the table's beginning.
+fn changed(text: &str, asked: [u64; 4], changes: &[(usize, i32)]) {
+    changed_at(text, 0, 0, asked, changes);
 }
 
 fn tables(random: &mut Random, text: &str) {
@@ -115,6 +136,20 @@ fn tables(random: &mut Random, text: &str) {
             changed(text, [count, passes, 0, s], &[]);
             changed(text, [count + 4, passes, 0, s], &[]);
         }
+    }
+    // parts that start where the text's table does, beside it, behind it and past all numbers, with as many
+    // states as there are, fewer and more, and entries changed before the part and in it
+    for at in [0, 1, 41, 333] {
+        for start in [0, at, at + 1, at + 41, at + 41 * (count - 4), at + 41 * count, at + 41 * count + 1, 1 << 32, u64::MAX - 41 * count, u64::MAX] {
+            for n in [0, 4, count - 4, count, count + 1, 32, u64::MAX / 41, u64::MAX / 41 + 1, u64::MAX] {
+                changed_at(text, at, start, [n, 2, 0, 5], &[]);
+            }
+            changed_at(text, at, start, [count, 31, count, u64::MAX], &[]);
+        }
+        for place in (0..at as usize).step_by(20) {
+            changed_at(text, at, at, [count, 2, 0, place as u64 % 16], &[(place, i32::MIN)]);
+        }
+        changed_at(text, at, at, [count, 2, 0, 5], &[(at as usize, -1)]);
     }
     // tables that no compiler wrote, all of them readable
     for _ in 0..40 {
@@ -192,12 +227,12 @@ fn main() {
     }
     tables(&mut random, A5);
     tables(&mut random, texts[1]);
-    for line in ["G", "G x A_AAAA_E/", "G 256 A_AAAA_E/", "G 0", "D"] {
+    for line in ["G", "G 0", "G x 0 A_AAAA_E/", "G 0 x A_AAAA_E/", "G 0 256 A_AAAA_E/", "G 0 0", "D", "D 0", "D x 0 4 1 0 0 A_AAAA_E/"] {
         // a missing text is the empty text
-        let empty = line == "G 0" || line == "D";
+        let empty = line == "G 0 0" || line == "D 0";
         println!("{line}\t! {}", if empty { "12 0" } else { "21" });
     }
-    for line in ["D x 1 0 0", "D 28 256 0 0", "D 28 1 -1 0", "D 28 1 0 18446744073709551616"] {
+    for line in ["D 0 x 28 1 0 0", "D 0 0 x 1 0 0", "D 0 0 28 256 0 0", "D 0 0 28 1 -1 0", "D 0 0 28 1 0 18446744073709551616"] {
         println!("{line} {}\t! 21", word(A5));
     }
 }

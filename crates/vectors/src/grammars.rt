@@ -6,6 +6,7 @@ use crate::print::refused;
 use crate::print::unread;
 use descent::DescentAnswer;
 use descent::TableCell;
+use descent::descend_table;
 use tables::compiler::CompileAnswer;
 use tables::compiler::compile_grammar;
 use text::number::ByteWord;
@@ -45,10 +46,10 @@ fn text_of(word: &[u8], text: &mut [u8]) -> usize
     n
 }
 
-fn compiled(word: &[u8], table: &mut [i32]) -> CompileAnswer {
+fn compiled(word: &[u8], table: &mut [i32], at: usize) -> CompileAnswer {
     let mut text = [0u8; 512];
     let n = text_of(word, &mut text);
-    compile_grammar(&text[..n], table)
+    compile_grammar(&text[..n], table, at)
 }
 
 // A refusal's number, and the line at fault.
@@ -64,13 +65,17 @@ fn fault(out: &mut [u8], e: Refusal, line: usize) -> usize
 pub(crate) fn state(line: &[u8], out: &mut [u8]) -> usize
     ensures { λ n. ⌜ n ≤ length (now (out .entry)) ⌝ }
 {
-    let ByteWord::Byte(k) = byte(word(line, 1)) else {
+    let NaturalWord::Natural(at) = natural(word(line, 1)) else {
         return unread(out);
     };
-    let mut table = [0i32; 1312];
-    let answer = compiled(word(line, 2), &mut table);
+    let ByteWord::Byte(k) = byte(word(line, 2)) else {
+        return unread(out);
+    };
+    let mut table = [0i32; 2048];
+    let answer = compiled(word(line, 3), &mut table, at as usize);
+    let from = end_of(at as usize, 0);
     match answer {
-        CompileAnswer::States(n) => put_state(out, n, &table, k as usize),
+        CompileAnswer::States(n) => put_state(out, n, &table[from..], k as usize),
         CompileAnswer::Fault(e, at) => fault(out, e, at),
         CompileAnswer::Refused(e) => refused(out, e),
     }
@@ -108,12 +113,15 @@ fn put_entry(out: &mut [u8], at: usize, table: &[i32], k: usize, j: usize) -> us
 pub(crate) fn descent(line: &[u8], out: &mut [u8]) -> usize
     ensures { λ n. ⌜ n ≤ length (now (out .entry)) ⌝ }
 {
-    let mut table = [0i32; 1312];
-    let answer = compiled(word(line, 5), &mut table);
+    let NaturalWord::Natural(at) = natural(word(line, 1)) else {
+        return unread(out);
+    };
+    let mut table = [0i32; 2048];
+    let answer = compiled(word(line, 7), &mut table, at as usize);
     match answer {
         CompileAnswer::States(n) => {
             change(line, &mut table);
-            let held = held_of(n);
+            let held = end_of(at as usize, n);
             descend(line, out, &table[..held])
         }
         CompileAnswer::Fault(e, at) => fault(out, e, at),
@@ -121,20 +129,23 @@ pub(crate) fn descent(line: &[u8], out: &mut [u8]) -> usize
     }
 }
 
-// How many numbers so many states have.
-fn held_of(states: usize) -> usize
-    ensures { λ n. ⌜ n ≤ 1312 ⌝ }
+// Where so many states from an entry on end: at most where the table does.
+fn end_of(at: usize, states: usize) -> usize
+    ensures { λ n. ⌜ n ≤ 2048 ⌝ }
 {
-    if states > 32 {
-        return 1312;
+    if at > 2048 {
+        return 2048;
     }
-    41 * states
+    if states > (2048 - at) / 41 {
+        return 2048;
+    }
+    at + 41 * states
 }
 
 // The table's entries changed as the words after the text say: places, and the numbers to stand there.
 fn change(line: &[u8], table: &mut [i32]) {
     let words = count(line);
-    let mut k: usize = 7;
+    let mut k: usize = 9;
     while k < words {
         set_entry(word(line, k - 1), word(line, k), table);
         if words - k < 2 {
@@ -160,19 +171,29 @@ fn set_entry(place: &[u8], value: &[u8], table: &mut [i32]) {
 fn descend(line: &[u8], out: &mut [u8], table: &[i32]) -> usize
     ensures { λ n. ⌜ n ≤ length (now (out .entry)) ⌝ }
 {
-    let NaturalWord::Natural(states) = natural(word(line, 1)) else {
+    let NaturalWord::Natural(start) = natural(word(line, 2)) else {
         return unread(out);
     };
-    let ByteWord::Byte(passes) = byte(word(line, 2)) else {
+    let NaturalWord::Natural(states) = natural(word(line, 3)) else {
         return unread(out);
     };
-    let NaturalWord::Natural(token) = natural(word(line, 3)) else {
+    let ByteWord::Byte(passes) = byte(word(line, 4)) else {
         return unread(out);
     };
-    let NaturalWord::Natural(s) = natural(word(line, 4)) else {
+    let NaturalWord::Natural(token) = natural(word(line, 5)) else {
         return unread(out);
     };
-    let answer = descent::descend_table(table, states as usize, passes, token as usize, s);
+    let NaturalWord::Natural(s) = natural(word(line, 6)) else {
+        return unread(out);
+    };
+    let answer = descend_table(
+        table,
+        start as usize,
+        states as usize,
+        passes,
+        token as usize,
+        s,
+    );
     match answer {
         DescentAnswer::At(c) => put_cell(out, c),
         DescentAnswer::Refused(e) => refused(out, e),

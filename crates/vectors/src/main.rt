@@ -7,10 +7,12 @@
 //     W o r s                       code of a position: its bytes, in decimal
 //     K byte byte ..                what a code reads as: o r s, and how many bytes it took
 //     N o r motif flip a b digit    child step: x y z flavor, and the node below, o r motif flip a b
-//     G k text                      numbers of a grammar: its states, and the 41 of state k
-//     D states passes token s text place value ..
-//                                   cell at place s of the text's table, the values put at their places
-//                                   of it first: a b flavor
+//     G at k text                   numbers of a grammar, compiled from entry `at` of a table of 2048 on:
+//                                   its states, and the 41 of state k
+//     D at start states passes token s text place value ..
+//                                   cell at place s of what the states from entry `start` on give, in a
+//                                   table that has the text's from entry `at` on and ends with it, the
+//                                   values put at their places of it first: a b flavor
 //
 // A node's a and b are the 16 hex digits of an f64's bits. A text has `_` for a space and `/` for
 // LF, and its refusals are answered with the line at fault. What is answered is the crates'; how the

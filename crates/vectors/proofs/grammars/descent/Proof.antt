@@ -9,6 +9,27 @@ use Rattle.vectors.proofs.grammars.descent.Tie as tie
 word-requires : tie.Need-word-requires
 word-requires c κs = search needs
 
+natural-requires : tie.Need-natural-requires
+natural-requires c κs = search needs
+
+enum-known-at : tie.Need-enum-known-at
+enum-known-at c = search needs
+
+enum-told : tie.Need-enum-told
+enum-told c = search needs
+
+unread-requires : tie.Need-unread-requires
+unread-requires c κs = search needs
+
+same-length : tie.Need-same-length
+same-length c = search needs
+
+returns : tie.Need-returns
+returns c = search needs
+
+word-requires-2 : tie.Need-word-requires-2
+word-requires-2 c κs = search needs
+
 slice-aggregate-compiled : tie.Need-slice-aggregate-compiled
 slice-aggregate-compiled c = search needs
 
@@ -24,8 +45,8 @@ slice-aggregate-change c = search needs
 change-requires : tie.Need-change-requires
 change-requires c κs = search needs
 
-held-of-requires : tie.Need-held-of-requires
-held-of-requires c κs = search needs
+end-of-requires : tie.Need-end-of-requires
+end-of-requires c κs = search needs
 
 array-share-prefix-table : tie.Need-array-share-prefix-table
 array-share-prefix-table c = search needs
@@ -48,12 +69,6 @@ enum-known-answer-3 c = search needs
 refused-requires : tie.Need-refused-requires
 refused-requires c κs = search needs
 
-same-length : tie.Need-same-length
-same-length c = search needs
-
-returns : tie.Need-returns
-returns c = search needs
-
 same-length-2 : tie.Need-same-length-2
 same-length-2 c = search needs
 
@@ -66,17 +81,30 @@ same-length-3 c = search needs
 returns-3 : tie.Need-returns-3
 returns-3 c = search needs
 
+same-length-4 : tie.Need-same-length-4
+same-length-4 c = search needs
+
+returns-4 : tie.Need-returns-4
+returns-4 c = search needs
+
 pub descent-spec : {M : Type 1} → statement M
 descent-spec =
     tie.close
     (tie.spec
     word-requires
+    natural-requires
+    enum-known-at
+    enum-told
+    unread-requires
+    same-length
+    returns
+    word-requires-2
     slice-aggregate-compiled
     compiled-requires
     enum-known-answer
     slice-aggregate-change
     change-requires
-    held-of-requires
+    end-of-requires
     array-share-prefix-table
     slice-aggregate-descend
     descend-requires
@@ -84,9 +112,9 @@ descent-spec =
     fault-requires
     enum-known-answer-3
     refused-requires
-    same-length
-    returns
     same-length-2
     returns-2
     same-length-3
-    returns-3)
+    returns-3
+    same-length-4
+    returns-4)
