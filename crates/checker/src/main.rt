@@ -9,7 +9,7 @@ use treated::CheckAnswer;
 use treated::Fault;
 
 // As many bytes as 512 codes can have, and one more: they tell the verdict, whatever comes after them
-// (proofs/FrontLaws.antt of `treated`).
+// (proofs/FirstBytes.antt of `treated`).
 const ENOUGH: usize = 4609;
 
 // What a read gave: how many bytes, and whether there is nothing more to be read, at the end of the input

@@ -16,6 +16,8 @@ pub mod ReadLaws
 pub mod SpareLaws
 -- a code has one spelling
 pub mod Canonical
+-- the reader looks at no byte behind the ninth
+pub mod FrontLaws
 -- what is written is read back
 pub mod RoundTrip
 -- ---- all operations

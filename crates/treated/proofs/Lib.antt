@@ -9,7 +9,7 @@ pub mod CheckLaws
 -- what the verdict says of all codes at once
 pub mod Claimed
 -- how many bytes tell it
-pub mod FrontLaws
+pub mod FirstBytes
 -- ---- the operation
 -- its contract allows one result alone
 pub mod Determined

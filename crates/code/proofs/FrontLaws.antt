@@ -1,27 +1,23 @@
--- The reader looks at no byte behind the ninth, and so the verdict at none behind those of 512 codes and one more.
+-- The reader looks at no byte behind the ninth: the first nine bytes of a list, or more of them, read as the list does.
 use mathlib.Core.Path.{_≡_, refl, sym, ap, _∙_}
 use mathlib.Core.Bool.{Bool, true, false}
 use mathlib.Core.List.{List, [], _∷_, _++_}
 use Prim.Native.Nat.{ℕ, zero, suc, _+_, _-_, _*_, _<_, _≤_}
-use native.Mathlib.Nat as N
 use native.Mathlib.Omega.{arith}
+use native.Mathlib.Decide.{decLt}
 use lib.Dec.{ltb, eqb}
 use lib.ListN.{length, take, drop, length-take}
 use lib.Seq.{take-append-add, take-take, take-nil}
-use native.Mathlib.Decide.{decLt}
 use borrow.Author.Tests.{lt-ltb, le-ltb, eq-eqb, ne-eqb, ltb-false}
 use Rattle.whole.proofs.Slices.{drop-take}
 use Rattle.triple.specs.declared.refusal.Refusal.the-variants as Is
 use Rattle.triple.specs.Refusals.{Told, told, refused, refuse, _>>=_}
 use Rattle.triple.specs.Domain.{greatestResolution}
 use Rattle.code.specs.declared.Reading.{Reading}
 use Rattle.code.specs.Codes.{bitsOf, valueOf, allBits, codeLength, readingOf, spareOf, looseOf, readOf}
 use Rattle.code.proofs.BitLaws.{length-bits}
 use Rattle.code.proofs.Canonical.{read-loosely}
 use Rattle.code.proofs.SpareLaws.{loose-sized}
-use Rattle.treated.specs.declared.Judged.{Judged}
-use Rattle.treated.specs.Treated.{judgeOf, faulty, judged, checkFrom, checkOf}
-use Rattle.treated.proofs.JudgeLaws.{right-fine}
 
 -- ---- bits of the first n bytes
 bits-front : (n : ℕ) (bytes : List ℕ) → allBits (take n bytes) ≡ take (8 * n) (allBits bytes)
@@ -74,7 +70,7 @@ module _ (n : ℕ) (bytes : List ℕ) (nine : 9 ≤ n) where
   unfolding codeLength
   short m h = omega arith
 
-  loose-same : looseOf (take n bytes) ≡ looseOf bytes
+  pub loose-same : looseOf (take n bytes) ≡ looseOf bytes
   unfolding looseOf
   loose-same = rw (o-same, r-same, empty-same) (ap (refuse (eqb (length bytes) 0) Is.Code) (by (ltb greatestResolution r) refl))
     where
@@ -99,43 +95,6 @@ module _ (n : ℕ) (bytes : List ℕ) (nine : 9 ≤ n) where
       by (told x) e = ap (λ (k : ℕ). refuse (ltb 0 k) Is.Spare (told x)) (spare-same (x .resolution) (loose-sized bytes e .shallow))
       by (refused k) e = refl
 
-read-few : (bytes : List ℕ) {x : Reading} → readOf bytes ≡ told x → x .used ≤ 9
+pub read-few : (bytes : List ℕ) {x : Reading} → readOf bytes ≡ told x → x .used ≤ 9
 unfolding codeLength
 read-few bytes e = let l = loose-sized bytes (read-loosely bytes e .0) in omega (arith, l .count, l .shallow)
-
--- ---- the verdict
-abbrev Same : ℕ → Type 0
-Same k = (before : List Reading) (rest : List ℕ) (m : ℕ) → 9 * k < m → checkFrom k before (take m rest) ≡ checkFrom k before rest
-
-same-zero : Same zero
-unfolding checkFrom
-same-zero before [] m h = ap (checkFrom zero before) (take-nil m)
-same-zero before (b ∷ rest) zero h = let z : ⊥ = omega arith in absurd z
-same-zero before (b ∷ rest) (suc m) h = refl
-
-same-suc : (k : ℕ) → Same k → Same (suc k)
-unfolding checkFrom
-same-suc k later before [] m h = ap (checkFrom (suc k) before) (take-nil m)
-same-suc k later before (b ∷ bytes) zero h = let z : ⊥ = omega arith in absurd z
-same-suc k later before (b ∷ bytes) (suc m) h =
-    let rest = b ∷ bytes in
-    let r = read-same (suc m) rest (omega arith) in
-    ap (λ (t : Told Reading). judged (judgeOf before t) (λ f. told (faulty f (length before))) (λ x. checkFrom k (before ++ (x ∷ [])) (drop (x .used) (take (suc m) rest)))) r
-    ∙ by (judgeOf before (readOf rest)) refl
-  where
-    by : (j : Judged) → judgeOf before (readOf (b ∷ bytes)) ≡ j
-        → judged j (λ f. told (faulty f (length before))) (λ x. checkFrom k (before ++ (x ∷ [])) (drop (x .used) (take (suc m) (b ∷ bytes))))
-        ≡ judged j (λ f. told (faulty f (length before))) (λ x. checkFrom k (before ++ (x ∷ [])) (drop (x .used) (b ∷ bytes)))
-    by (Judged.Wrong f) e = refl
-    by (Judged.Right x) e =
-        let few = read-few (b ∷ bytes) (right-fine before (readOf (b ∷ bytes)) e .sound) in
-        ap (checkFrom k (before ++ (x ∷ []))) (drop-take (suc m) (x .used) (b ∷ bytes)) ∙ later (before ++ (x ∷ [])) (drop (x .used) (b ∷ bytes)) (suc m - x .used) (omega (arith, few))
-
-same : (k : ℕ) → Same k
-same zero = same-zero
-same (suc k) = same-suc k (same k)
-
--- the first 4609 bytes tell it
-pub check-front : (list : List ℕ) → checkOf (take 4609 list) ≡ checkOf list
-unfolding checkOf
-check-front list = same 512 [] list 4609 (omega arith)
