@@ -27,6 +27,8 @@ pub mod RoundedExactly
 pub mod Drawn
 -- each part of a table is a table of its own
 pub mod Parted
+-- some parts, computed
+pub mod PartExamples
 -- ---- drawings without tables
 -- a drawing lists the cells that the descent over A5's table gives
 pub mod Sketched
