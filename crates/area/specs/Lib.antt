@@ -1,0 +1,3 @@
+pub mod Areas
+pub mod Answers
+pub mod Inside
