@@ -183,6 +183,36 @@ uint8_t hb_fold(uint8_t orientation, uint8_t resolution, const uint64_t *positio
 uint8_t hb_unfold(uint8_t orientation, uint8_t resolution, const uint64_t *pairs, size_t pairs_len,
                   uint64_t *positions, size_t positions_len, uint64_t *count, size_t count_len);
 
+/* An area is a list of pairs, a resolution and a position each, of cells in curve order none of which lies
+ * in another, all of one orientation. Cells may touch, and need not be folded. Any numbers may stand in
+ * an area that is handed in: the functions on areas refuse by 1 a resolution above 30, by 3 a position
+ * at or above 4^ its resolution, by 25 a number without its partner or a cell that does not begin
+ * after the end of the one before it; each of these is looked for in all areas of the call before the next.
+ *
+ * What one of two areas covers: the union, which counts no ground twice.
+ * Values: the pairs, folded, to pairs (never more than in a and b together), and how many cells (1) to
+ * count; both or, on a refusal, neither. Refusals: 1, 3, 25, 10. */
+uint8_t hb_area_union(const uint64_t *a, size_t a_len, const uint64_t *b, size_t b_len, uint64_t *pairs,
+                      size_t pairs_len, uint64_t *count, size_t count_len);
+
+/* What both of two areas cover. Values and refusals as hb_area_union's. */
+uint8_t hb_area_intersection(const uint64_t *a, size_t a_len, const uint64_t *b, size_t b_len, uint64_t *pairs,
+                             size_t pairs_len, uint64_t *count, size_t count_len);
+
+/* What the first of two areas covers and the second does not. Values and refusals as hb_area_union's, but
+ * that there can be more pairs than in a and b together. */
+uint8_t hb_area_difference(const uint64_t *a, size_t a_len, const uint64_t *b, size_t b_len, uint64_t *pairs,
+                           size_t pairs_len, uint64_t *count, size_t count_len);
+
+/* Whether an area covers all of a cell.
+ * Values: 0 or 1 (1). Refusals: 1, 3, 25, 10; of the cell as of a pair. */
+uint8_t hb_area_contains(const uint64_t *a, size_t a_len, uint8_t resolution, uint64_t s, uint64_t *out,
+                         size_t out_len);
+
+/* How many cells of a resolution an area covers.
+ * Values: their number (1). Refusals: 1 (also where a pair is finer than the resolution), 3, 25, 10. */
+uint8_t hb_area_size(const uint64_t *a, size_t a_len, uint8_t resolution, uint64_t *out, size_t out_len);
+
 /* Mends a list of codes that stand one after another: sound codes are copied, spare bits are cleared, old
  * codes are turned forward, and a byte where no code can be read is dropped.
  * Values: the mended list to out, and its length and the number of changes (2) to counts; both or, on a

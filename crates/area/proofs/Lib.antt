@@ -26,6 +26,10 @@ pub mod AnswerLaws
 -- ---- all operations
 -- what a call is told of, and that it takes what another wrote
 pub mod Accepted
+-- how much what is made covers
+pub mod SizeLaws
+-- what is true of the calls, one after another
+pub mod CallLaws
 -- each contract allows one result alone
 pub mod Determined
 -- worked examples

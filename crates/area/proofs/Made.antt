@@ -32,7 +32,7 @@ agree false false f g = refl
 
 module _ (r : ℕ) where
   -- ---- what cells hold
-  coarse : (place : ℕ) (cells : List Cell) → Laid r place cells → Coarse r cells
+  pub coarse : (place : ℕ) (cells : List Cell) → Laid r place cells → Coarse r cells
   coarse place [] l = tt
   coarse place (cell m p ∷ cells) l = (l .0, coarse (suc p * 4 ^ (r - m)) cells (l .3))
 

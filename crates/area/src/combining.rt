@@ -45,7 +45,8 @@ pub fn difference(a: &[u64], b: &[u64], out: &mut [u64]) -> AreaAnswer
     combine(Operation::Difference, a, b, out)
 }
 
-fn combine(operation: Operation, a: &[u64], b: &[u64], out: &mut [u64]) -> AreaAnswer
+// The same of an operation by its name.
+pub fn combine(operation: Operation, a: &[u64], b: &[u64], out: &mut [u64]) -> AreaAnswer
     ensures { λ x. ⌜ (saidArea x ≡ valued (λ n. n / 2) (countOf (madeCall operation (now (a .entry)) (now (b .entry))) (now (out .entry)))) × (now (out .exit) ≡ afterCall (madeCall operation (now (a .entry)) (now (b .entry))) (now (out .entry))) ⌝ }
 {
     let first = tests_passed(Triple::GREATEST_RESOLUTION, a);

@@ -9,6 +9,8 @@ use Rattle.triple.specs.Lent.{Called, CalledBoth}
 use Rattle.sketch.specs.Drawings.{drawCall}
 use Rattle.capi.specs.Verdicts.{checkCall}
 use Rattle.capi.specs.Calls.{cellCall, positionCall, nodeCall, stepCall, pointCall, exactPointCall, cornerCall, tripleCall, writeCall, readCall, wktWriteCall, wktReadCall, foldedCall, unfoldedCall, mendBoth, mendStepBoth, lineCall, descendCall, CompileCalled}
+use Rattle.area.specs.declared.operation.Operation.the-variants as For
+use Rattle.capi.specs.AreaCalls.{combinedCall, areaContainsCall, areaSizeCall}
 
 -- ---- whatever the call gives
 module _ {A : Type 0} (call : Told (List A)) (slice : List A) where
@@ -93,3 +95,24 @@ hb-descend-determined table start states passes token s = called-once (descendCa
 pub hb-compile-determined : (text : List ℕ) (table : List ℤ) (start : ℕ) (out : List ℕ) (m n : ℕ) (v w : List ℤ) (x y : List ℕ)
     → CompileCalled text table start out m v x → CompileCalled text table start out n w y → (m ≡ n) × (v ≡ w) × (x ≡ y)
 hb-compile-determined text table start out m n v w x y p q = (p .0 ∙ sym (q .0), p .1 ∙ sym (q .1), p .2 ∙ sym (q .2))
+
+-- ---- areas
+pub hb-area-union-determined : (a b pairs count : List ℕ) (m n : ℕ) (v w x y : List ℕ)
+    → CalledBoth (combinedCall For.Union a b) pairs count m v x → CalledBoth (combinedCall For.Union a b) pairs count n w y → (m ≡ n) × (v ≡ w) × (x ≡ y)
+hb-area-union-determined a b = called-both-once (combinedCall For.Union a b)
+
+pub hb-area-intersection-determined : (a b pairs count : List ℕ) (m n : ℕ) (v w x y : List ℕ)
+    → CalledBoth (combinedCall For.Intersection a b) pairs count m v x → CalledBoth (combinedCall For.Intersection a b) pairs count n w y → (m ≡ n) × (v ≡ w) × (x ≡ y)
+hb-area-intersection-determined a b = called-both-once (combinedCall For.Intersection a b)
+
+pub hb-area-difference-determined : (a b pairs count : List ℕ) (m n : ℕ) (v w x y : List ℕ)
+    → CalledBoth (combinedCall For.Difference a b) pairs count m v x → CalledBoth (combinedCall For.Difference a b) pairs count n w y → (m ≡ n) × (v ≡ w) × (x ≡ y)
+hb-area-difference-determined a b = called-both-once (combinedCall For.Difference a b)
+
+pub hb-area-contains-determined : (a : List ℕ) (r s : ℕ) (out : List ℕ) (m n : ℕ) (x y : List ℕ)
+    → Called (areaContainsCall a r s) out m x → Called (areaContainsCall a r s) out n y → (m ≡ n) × (x ≡ y)
+hb-area-contains-determined a r s = called-once (areaContainsCall a r s)
+
+pub hb-area-size-determined : (a : List ℕ) (r : ℕ) (out : List ℕ) (m n : ℕ) (x y : List ℕ)
+    → Called (areaSizeCall a r) out m x → Called (areaSizeCall a r) out n y → (m ≡ n) × (x ≡ y)
+hb-area-size-determined a r = called-once (areaSizeCall a r)

@@ -5,6 +5,9 @@ pub mod SignedLaws
 pub mod GivenLaws
 -- a status by the count that an operation answers
 pub mod CountedLaws
+-- ---- areas
+-- a flag as its number
+pub mod AreaCallLaws
 -- ---- mending
 -- values to one slice, and a few numbers of how many they are to another
 pub mod MendLaws

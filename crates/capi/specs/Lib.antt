@@ -1,3 +1,4 @@
 pub mod Calls
 pub mod Verdicts
+pub mod AreaCalls
 pub mod Inside

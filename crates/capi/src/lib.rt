@@ -57,6 +57,7 @@ use turtle::corner::TripleAnswer;
 use verdict::fault_number;
 use verdict::put_verdict;
 
+mod areas;
 mod put;
 mod verdict;
 
