@@ -1,5 +1,5 @@
 -- What the calls are told: two areas; what is made of them is one too, which every call takes.
-use mathlib.Core.Bool.{Bool, true, false, not, _&&_, and-comm}
+use mathlib.Core.Bool.{Bool, true, false, not, cond, _&&_, and-comm}
 use mathlib.Core.Path.{_≡_, refl, sym, ap, ap₂, _∙_}
 use mathlib.Core.List.{List, [], _∷_}
 use Prim.Native.Nat.{ℕ, _*_, _%_, _≤_}
@@ -12,7 +12,7 @@ use Rattle.triple.specs.Refusals.{Told, told}
 use Rattle.triple.proofs.RefusalLaws.{passed}
 use Rattle.fold.specs.Cells.{Cell, pairs, cellsIn}
 use Rattle.fold.specs.Foldings.{Lone}
-use Rattle.fold.specs.Unfolds.{shallow, inside, apart, ordered}
+use Rattle.fold.specs.Unfolds.{shallow, inside, apart, ordered, passes}
 use Rattle.fold.specs.Inside.Pairs.{Laid}
 use Rattle.fold.proofs.ListLaws.{both-true}
 use Rattle.fold.proofs.PairLaws.{length-pairs, cells-of-pairs, pairs-of-cells}
@@ -105,3 +105,29 @@ made-told o a b x y = tested-taken a b _ x y
 
 pub area-pairs : (a : List ℕ) → Area a → pairs (cellsIn a) ≡ a
 area-pairs a x = pairs-of-cells a (x .even)
+
+-- ---- by the count of the tests
+pub area-passes : (a : List ℕ) → Area a → passes 30 a ≡ 3
+unfolding passes ordered
+area-passes a x =
+    simp (
+      laid-shallow 30 0 (cellsIn a) (x .laid),
+      laid-inside 30 0 (cellsIn a) (x .laid),
+      laid-apart 30 0 (cellsIn a) (x .laid),
+      eq-eqb (length a % 2) 0 (x .even),
+    )
+
+all-three : (s i o : Bool) → _≡_ {A = ℕ} (cond s (cond i (cond o 3 2) 1) 0) 3 → (s ≡ true) × (i ≡ true) × (o ≡ true)
+all-three true true true e = (refl, refl, refl)
+all-three true true false e = let z : ⊥ = omega arith in absurd z
+all-three true false o e = let z : ⊥ = omega arith in absurd z
+all-three false i o e = let z : ⊥ = omega arith in absurd z
+
+pub passes-area : (a : List ℕ) → passes 30 a ≡ 3 → Area a
+unfolding passes ordered
+passes-area a e =
+    let t = all-three (shallow 30 (cellsIn a)) (inside (cellsIn a)) (ordered 30 a) e in
+    record {
+      even = eqb-true (length a % 2) 0 (both-true (eqb (length a % 2) 0) (apart 30 0 (cellsIn a)) (t .2) .0);
+      laid = ordered-laid 30 a (t .0) (t .1) (t .2);
+    }

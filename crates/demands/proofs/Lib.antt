@@ -42,6 +42,8 @@ pub mod WholeCodes
 -- ---- folding
 -- what a fold is, and that unfolding undoes it
 pub mod Folded
+-- areas: unions, intersections and differences
+pub mod AreaDemands
 -- lists of codes, mended
 pub mod Mended
 -- and treated lists, checked

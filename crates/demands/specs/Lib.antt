@@ -4,3 +4,4 @@ pub mod Demands
 pub mod Dozen
 pub mod Parts
 pub mod TreatedLists
+pub mod Areas
