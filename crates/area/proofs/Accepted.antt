@@ -14,7 +14,7 @@ use Rattle.fold.specs.Cells.{Cell, pairs, cellsIn}
 use Rattle.fold.specs.Foldings.{Lone}
 use Rattle.fold.specs.Unfolds.{shallow, inside, apart, ordered, passes}
 use Rattle.fold.specs.Inside.Pairs.{Laid}
-use Rattle.fold.proofs.ListLaws.{both-true}
+use Rattle.whole.proofs.Bools.{both-true}
 use Rattle.fold.proofs.PairLaws.{length-pairs, cells-of-pairs, pairs-of-cells}
 use Rattle.fold.proofs.PairTestLaws.{laid-shallow, laid-inside, laid-apart, ordered-laid}
 use Rattle.area.specs.declared.operation.Operation.{Operation}

@@ -15,7 +15,7 @@ use Rattle.triple.proofs.LentLaws.{count-short, count-whole, refused-count, ref
 use Rattle.fold.specs.Cells.{pairs, cellsIn}
 use Rattle.fold.specs.Unfolds.{shallow, inside, ordered, passes, unfoldOf, unfoldCall}
 use Rattle.fold.specs.Inside.Pairs.{Tested}
-use Rattle.fold.proofs.ListLaws.{both-true}
+use Rattle.whole.proofs.Bools.{both-true}
 use Rattle.fold.proofs.PairLaws.{length-pairs}
 use Rattle.fold.proofs.PairTestLaws.{ordered-laid}
 use Rattle.area.specs.declared.operation.Operation.{Operation}

@@ -14,7 +14,7 @@ use Rattle.whole.proofs.Digits.{four-power}
 use Rattle.fold.specs.Cells.{Cell, cell, Covers, Covered}
 use Rattle.fold.specs.Inside.Pairs.{Laid}
 use Rattle.area.specs.Areas.{held, keeps, made, takesAll, contained}
-use Rattle.fold.proofs.ListLaws.{both-true}
+use Rattle.whole.proofs.Bools.{both-true}
 use Rattle.area.specs.declared.operation.Operation.the-variants as For
 use Rattle.area.proofs.CellLaws.{in-cell}
 use Rattle.area.proofs.Along.{Along}

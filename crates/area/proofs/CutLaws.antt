@@ -12,7 +12,7 @@ use Rattle.whole.proofs.Digits.{four-power}
 use Rattle.whole.proofs.Powers.{four-by-shift}
 use Rattle.triple.specs.Domain.{positionCount}
 use Rattle.triple.proofs.DomainLaws.{positions-are}
-use Rattle.fold.proofs.ListLaws.{both-true}
+use Rattle.whole.proofs.Bools.{both-true}
 use Rattle.area.specs.Inside.Cursors.{fitsAt, Fits}
 
 -- ---- one cell, as the code tests it

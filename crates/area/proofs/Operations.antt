@@ -9,7 +9,7 @@ use Rattle.fold.specs.Cells.{Cell, Covered}
 use Rattle.fold.specs.Inside.Pairs.{Laid}
 use Rattle.area.specs.Areas.{held, keeps, made}
 use Rattle.fold.specs.Foldings.{Lone}
-use Rattle.fold.proofs.ListLaws.{both-true}
+use Rattle.whole.proofs.Bools.{both-true}
 use Rattle.area.specs.declared.operation.Operation.the-variants as For
 use Rattle.area.proofs.Made.{laid-covered, made-covers, made-held, made-only, made-same}
 

@@ -21,7 +21,7 @@ use Rattle.fold.specs.Cells.{Cell, cell, pairs, cellsIn}
 use Rattle.fold.specs.Inside.Pairs.{Laid}
 use Rattle.area.specs.Areas.{keeps, madeOf}
 use Rattle.area.specs.Inside.Cursors.{Reached, Pieced, Fits}
-use Rattle.fold.proofs.ListLaws.{both-true}
+use Rattle.whole.proofs.Bools.{both-true}
 use Rattle.fold.proofs.PairLaws.{length-pairs, pairs-poured}
 use Rattle.area.specs.declared.operation.Operation.{Operation}
 use Rattle.area.specs.declared.cursors.Piece.{Piece}
