@@ -24,7 +24,8 @@ use Rattle.mend.specs.Mends.{longestCode, pieceOf, mendOf, stepOf}
 use Rattle.mend.proofs.PieceLaws.{piece-within}
 use Rattle.mend.proofs.Fronts.{piece-front, mend-goes-on}
 use Rattle.mender.specs.declared.walk.Walk.{Walk}
-use Rattle.mender.specs.Carries.{limitOf, Given, wholeStep, Carried}
+use Rattle.mender.specs.Carries.{Carried}
+use Rattle.mender.specs.Inside.Steps.{limitOf, Given, wholeStep}
 
 -- ---- the limit of a piece that is not the last
 pub limit-long : (n : ℕ) {last : Bool} → last ≡ false → 8 < n → n - 8 ≡ limitOf last n

@@ -1,1 +1,2 @@
 pub mod Carries
+pub mod Inside
