@@ -5,7 +5,7 @@ ghost use Rattle.triple.specs.Refusals.{told};
 ghost use Rattle.triple.specs.Lent.{statusOf, afterCall, firstOf, secondOf};
 ghost use Rattle.area.specs.declared.operation.Operation.{Operation};
 ghost use Rattle.capi.specs.AreaCalls.{combinedCall, flagValues, areaContainsCall, areaSizeCall};
-use crate::lendable;
+use crate::put::lendable;
 use crate::put::put_count;
 use area::combining::AreaAnswer;
 use area::operation::Operation;

@@ -1,6 +1,8 @@
 // How values are laid out in a lent slice: each writer puts those of one type at the slice's front and
 // answers 0; it answers 10 where the slice is too short, and then leaves it as it was.
 ghost use mathlib.Core.Path.{_≡_};
+ghost use lib.Dec.{ltb};
+ghost use mathlib.Core.Bool.{cond};
 ghost use Rattle.triple.specs.Refusals.{told};
 ghost use Prim.Native.Nat.{_≤_};
 ghost use Rattle.descent.specs.Answers.{saidLeaf};
@@ -246,4 +248,15 @@ fn change_number(change: Change) -> u64
         Change::Both => 3,
         Change::Dropped => 4,
     }
+}
+
+// How much of `bytes` a writer is lent: nothing where the count has no place in `out`. No code fits
+// into nothing, so that one which is not refused otherwise is then refused for room.
+pub(crate) fn lendable(bytes: usize, out: usize) -> usize
+    ensures { λ n. ⌜ (n ≤ bytes) × (n ≡ cond (ltb out 1) 0 bytes) ⌝ }
+{
+    if out < 1 {
+        return 0;
+    }
+    bytes
 }
