@@ -4,3 +4,14 @@ pub mod MemberLaws
 pub mod OrderLaws
 -- each of them once
 pub mod DistinctLaws
+-- the triples of a report
+pub mod TripleLaws
+-- a list of positions in order, each once
+pub mod SettleLaws
+-- what a report answers at each of its tests
+pub mod ReportLaws
+-- ---- the call
+-- what it covers, and that neither order nor repetition matters
+pub mod CallLaws
+-- the contract allows one result alone
+pub mod Determined

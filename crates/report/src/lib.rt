@@ -2,3 +2,4 @@
 // area. Where a triple stands on the curve is `lsystem`'s, folding is `fold`'s, and what is done with areas
 // is `area`'s.
 pub mod ordering;
+pub mod reporting;
