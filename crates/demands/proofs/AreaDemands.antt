@@ -8,7 +8,8 @@ use Rattle.area.specs.declared.operation.Operation.{Operation}
 use Rattle.area.specs.Areas.{madeCall}
 use Rattle.area.proofs.Accepted.{area-passes, passes-area, made-given, made-told}
 use Rattle.area.proofs.CallLaws.{union-ground, intersection-ground, difference-ground, contains-ground, out-shortest, union-again, union-turned, intersection-turned, union-joined, union-twice, sizes-sum, parted-whole, parted-clear}
-use Rattle.demands.specs.Areas.{IsArea, Made, AreaDemands}
+use Rattle.report.proofs.CallLaws.{report-ground, report-lone, report-area, report-same}
+use Rattle.demands.specs.Areas.{IsArea, union, Made, AreaDemands, ReportDemands}
 
 taken : (o : Operation) (a b : List ℕ) → ((out : List ℕ) × (madeCall o a b ≡ told out)) ↔ (IsArea a × IsArea b)
 taken o a b = (
@@ -34,4 +35,15 @@ areas = record {
   turned = intersection-turned;
   sizes = λ a b u i eu ei r v w. sizes-sum a b eu ei r;
   parted = λ a b d i ed ei. (parted-whole a b ed ei, parted-clear a b ed ei);
+}
+
+-- ---- reports
+pub reports : ReportDemands
+reports = record {
+  covers = λ o r xs out. report-ground o r xs;
+  folded = λ o r xs out. report-lone o r xs;
+  area = λ o r xs out e. area-passes out (report-area o r xs e);
+  unordered = λ o r xs ys a b. report-same o r xs ys;
+  again = λ o r xs ys a b total once ea eb same e.
+      (let one : union total b ≡ told once = ap (union total) (sym (report-same o r xs ys ea eb same)) ∙ e in union-twice total b one);
 }

@@ -2,9 +2,11 @@
 use mathlib.Core.Path.{_≡_}
 use mathlib.Core.Logic.{_↔_, _⊎_}
 use mathlib.Core.Bool.{Bool, true}
-use mathlib.Core.List.{List, []}
+use mathlib.Core.List.{List, [], List·Memᴰ}
 use Prim.Native.Nat.{ℕ, _+_, _≤_}
+use lib.IntN.{ℤ}
 use lib.ListN.{length}
+use Rattle.triple.specs.declared.Triple.{Triple}
 use Rattle.triple.specs.Refusals.{Told, told, _>>=_}
 use Rattle.fold.specs.Cells.{Cell, cell, Covers, Covered, cellsIn}
 use Rattle.fold.specs.Unfolds.{passes}
@@ -12,6 +14,8 @@ use Rattle.fold.specs.Foldings.{Lone}
 use Rattle.area.specs.declared.operation.Operation.{Operation}
 use Rattle.area.specs.declared.operation.Operation.the-variants as For
 use Rattle.area.specs.Areas.{madeCall, sizeCall, containsCall}
+use Rattle.lsystem.specs.Cells.{positionOf}
+use Rattle.report.specs.Reports.{triplesIn, placeIn, reportCall}
 
 -- a list that passes the three tests of an area
 abbrev pub IsArea : List ℕ → Type 0
@@ -59,3 +63,19 @@ pub record AreaDemands : Type 0 where
       → (x : ℕ) × (y : ℕ) × (sizeCall u r ≡ told x) × (sizeCall i r ≡ told y) × (x + y ≡ v + w)
   -- difference and intersection with one area part the other: together they are all of it, and they share nothing
   pub parted : (a b d i : List ℕ) → difference a b ≡ told d → intersection a b ≡ told i → (union d i ≡ union a a) × (intersection d i ≡ told [])
+
+-- ---- reports: triples of one orientation and resolution, in any order and repeated or not
+pub record ReportDemands : Type 0 where
+  -- a report covers the positions of its triples, and no others
+  pub covers : (o r : ℕ) (xs : List ℤ) (out : List ℕ) → reportCall o r xs ≡ told out → (s : ℕ)
+      → Covered r (cellsIn out) s ↔ ((t : Triple) × List·Memᴰ t (triplesIn xs) × (placeIn (positionOf o r t) ≡ s))
+  -- it is folded
+  pub folded : (o r : ℕ) (xs : List ℤ) (out : List ℕ) → reportCall o r xs ≡ told out → Lone (cellsIn out)
+  -- it is an area, which every call takes
+  pub area : (o r : ℕ) (xs : List ℤ) (out : List ℕ) → reportCall o r xs ≡ told out → IsArea out
+  -- neither order nor repetition matters
+  pub unordered : (o r : ℕ) (xs ys : List ℤ) (a b : List ℕ) → reportCall o r xs ≡ told a → reportCall o r ys ≡ told b
+      → ((t : Triple) → List·Memᴰ t (triplesIn xs) ↔ List·Memᴰ t (triplesIn ys)) → a ≡ b
+  -- reporting and uniting twice is uniting once, whatever the total was
+  pub again : (o r : ℕ) (xs ys : List ℤ) (a b total once : List ℕ) → reportCall o r xs ≡ told a → reportCall o r ys ≡ told b
+      → ((t : Triple) → List·Memᴰ t (triplesIn xs) ↔ List·Memᴰ t (triplesIn ys)) → union total a ≡ told once → union once b ≡ told once

@@ -1,10 +1,10 @@
 -- What is true of reports as calls: what they cover, and that neither order nor repetition matters.
 use mathlib.Core.Bool.{Bool, true, false, not, _||_, false≢true}
 use mathlib.Core.Logic.{_↔_}
-use mathlib.Core.Path.{_≡_, refl, sym, ap, _∙_}
+use mathlib.Core.Path.{_≡_, refl, sym, ap, subst, _∙_}
 use mathlib.Core.List.{List, [], _∷_, List·Memᴰ, List·Memᴰ·head, List·Memᴰ·tail, List·Memᴰ·not-nil, List·Memᴰ·cases-cons}
 use mathlib.Core.Logic.{⊎-elim}
-use Prim.Native.Nat.{ℕ, _%_, _^_, _≤_}
+use Prim.Native.Nat.{ℕ, _+_, _-_, _%_, _^_, _≤_}
 use native.Mathlib.Omega.{arith}
 use native.Mathlib.Decide.{ℕ-discrete}
 use lib.Dec.{ltb, eqb}
@@ -23,9 +23,13 @@ use Rattle.fold.specs.Foldings.{Lone}
 use Rattle.fold.proofs.PairLaws.{cells-of-pairs}
 use Rattle.fold.proofs.Ground.{same-ground}
 use Rattle.fold.proofs.Siblings.{no-four-siblings}
+use Rattle.fold.specs.Inside.Pairs.{Laid}
+use Rattle.fold.proofs.GivenBack.{fold-laid}
+use Rattle.fold.proofs.PairTestLaws.{laid-finer}
+use Rattle.area.proofs.Accepted.{Area, pairs-area}
 use Rattle.area.proofs.Made.{agree}
-use Rattle.report.specs.Reports.{triplesIn, every, placeIn, placesOf, reportCall}
-use Rattle.report.proofs.SettleLaws.{fold-same}
+use Rattle.report.specs.Reports.{triplesIn, every, placeIn, placesOf, inOrder, reportCall}
+use Rattle.report.proofs.SettleLaws.{in-order-has, in-order-up, in-order-below, fold-same}
 use Rattle.report.proofs.ReportLaws.{places-below}
 
 -- ---- what is told has passed every test
@@ -90,6 +94,20 @@ report-lone o r xs {out} e =
     let places = placesOf o r (triplesIn xs) in
     let cells : cellsIn out ≡ foldOf r places = ap cellsIn (g .as-pairs) ∙ cells-of-pairs (foldOf r places) in
     rw cells (no-four-siblings r places)
+
+-- it is an area: a fold has the cells of its list in order, and so has it of the positions in order
+pub report-area : (o r : ℕ) (xs : List ℤ) {out : List ℕ} → reportCall o r xs ≡ told out → Area out
+report-area o r xs {out} e =
+    let g = report-given o r xs e in
+    let places = placesOf o r (triplesIn xs) in
+    let below = places-below o r (triplesIn xs) (g .oriented) (g .low) (g .bounded) in
+    let same : foldOf r (inOrder r places) ≡ foldOf r places = fold-same (inOrder r places) places (in-order-has r places below) r in
+    let laid : Laid r 0 (foldOf r (inOrder r places)) = fold-laid r (inOrder r places) (in-order-below r places below) (in-order-up r places below) in
+    let low = g .low in
+    let up : r + (30 - r) ≡ 30 = omega arith in
+    let fine : Laid 30 0 (foldOf r (inOrder r places)) = subst (λ (n : ℕ). Laid n 0 (foldOf r (inOrder r places))) up (laid-finer r (30 - r) (foldOf r (inOrder r places)) laid) in
+    let is : out ≡ pairs (foldOf r (inOrder r places)) = g .as-pairs ∙ ap pairs (sym same) in
+    rw is (pairs-area (foldOf r (inOrder r places)) fine)
 
 -- NEITHER ORDER NOR REPETITION MATTERS
 pub report-same : (o r : ℕ) (xs ys : List ℤ) {a b : List ℕ} → reportCall o r xs ≡ told a → reportCall o r ys ≡ told b
