@@ -7,7 +7,7 @@ use native.Mathlib.Omega.{arith}
 use native.Mathlib.Decide.{decLt, decLe}
 use lib.Dec.{ltb, leb, eqb}
 use lib.ListN.{length, drop}
-use borrow.Author.Tests.{le-ltb, lt-ltb, le-leb, lt-leb, leb-true, leb-false, not-true, not-false}
+use borrow.Author.Tests.{le-ltb, lt-ltb, le-leb, leb-true, leb-false, not-true, not-false}
 use Rattle.triple.specs.declared.refusal.Refusal.the-variants as Is
 use Rattle.triple.specs.Refusals.{Told, told, refused, numberOf}
 use Rattle.triple.specs.Lent.{valued, countOf, afterCall, Counted}

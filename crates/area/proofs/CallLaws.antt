@@ -21,7 +21,7 @@ use Rattle.area.proofs.Made.{made-laid, made-shortest, made-held, made-
 use Rattle.area.proofs.Operations.{union-covers, intersection-covers, difference-covers, union-self, union-commutes, intersection-commutes, union-associates}
 use Rattle.area.proofs.ContainLaws.{contained-covers}
 use Rattle.area.proofs.SizeLaws.{made-coarser, sizes-add}
-use Rattle.area.proofs.Accepted.{Area, Given, tested-told, tested-turned, made-given, made-told, pairs-area, area-pairs}
+use Rattle.area.proofs.Accepted.{Area, Given, tested-told, tested-turned, made-given, made-told, area-pairs}
 
 -- ---- what each covers
 module _ (a b : List ℕ) {out : List ℕ} where

@@ -11,9 +11,8 @@ use lib.Seq.{sets}
 use Rattle.triple.specs.declared.refusal.Refusal.the-variants.{Room}
 use Rattle.triple.specs.Refusals.{Told, told, refused, refuse, numberOf, _>>=_}
 use Rattle.triple.specs.Lent.{valued, countOf, afterCall, Called, CalledBoth}
-use Rattle.triple.proofs.RefusalLaws.{never}
+use Rattle.triple.proofs.RefusalLaws.{never, stepped}
 use Rattle.triple.proofs.LentLaws.{wrote, counted-refused, counted-kept, put-whole, put-known, none-written, both-whole, first-short, second-short}
-use Rattle.code.proofs.Canonical.{stepped}
 use Rattle.mend.specs.declared.Change.{Change}
 use Rattle.mend.specs.Mends.{mendOf, changesOf, mendCall}
 use Rattle.capi.specs.Calls.{changeNumber, mendBoth, mendStepBoth}

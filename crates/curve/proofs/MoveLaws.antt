@@ -13,7 +13,6 @@ use mir.Syntax.{w64}
 use mir.Val.{SFits, toZ}
 use Rattle.whole.proofs.TestLaws.{Hold, false-pass}
 use Rattle.whole.proofs.View.{View, rd, v-pos, v-add, v-bits, v-unsigned, v-abs, eq-by, fits, kept}
-use Rattle.triple.specs.declared.refusal.Refusal.the-variants as Is
 use Rattle.triple.specs.Refusals.{told}
 use Rattle.triple.specs.Triples.{bounds, inBounds}
 use Rattle.curve.specs.declared.PointCell.{PointCell}

@@ -4,7 +4,7 @@ use mathlib.Core.Logic.{_↔_}
 use mathlib.Core.Path.{_≡_, refl, sym, ap, subst, _∙_}
 use mathlib.Core.List.{List, [], _∷_, List·Memᴰ, List·Memᴰ·head, List·Memᴰ·tail, List·Memᴰ·not-nil, List·Memᴰ·cases-cons}
 use mathlib.Core.Logic.{⊎-elim}
-use Prim.Native.Nat.{ℕ, _+_, _-_, _%_, _^_, _≤_}
+use Prim.Native.Nat.{ℕ, _+_, _-_, _%_, _≤_}
 use native.Mathlib.Omega.{arith}
 use native.Mathlib.Decide.{ℕ-discrete}
 use lib.Dec.{ltb, eqb}
@@ -13,12 +13,12 @@ use lib.ListN.{length}
 use borrow.Author.Tests.{ltb-false, eq-eqb, ne-eqb, not-false}
 use Rattle.triple.specs.declared.Triple.{Triple}
 use Rattle.triple.specs.declared.refusal.Refusal.the-variants as Is
-use Rattle.triple.specs.Refusals.{Told, told}
+use Rattle.triple.specs.Refusals.{told}
 use Rattle.triple.specs.Triples.{goodSum, inBounds}
 use Rattle.triple.proofs.RefusalLaws.{passed}
 use Rattle.lsystem.specs.Cells.{positionOf}
 use Rattle.fold.specs.Cells.{Covered, pairs, cellsIn}
-use Rattle.fold.specs.Folds.{has, allBelow, foldOf}
+use Rattle.fold.specs.Folds.{has, foldOf}
 use Rattle.fold.specs.Foldings.{Lone}
 use Rattle.fold.proofs.PairLaws.{cells-of-pairs}
 use Rattle.fold.proofs.Ground.{same-ground}

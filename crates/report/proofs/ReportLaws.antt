@@ -1,16 +1,15 @@
 -- What a report answers, and its slices afterwards, at each of its tests, in the form of what the code has in hand there.
-use mathlib.Core.Bool.{Bool, true, false, not, _&&_, _||_, true≢false}
-use mathlib.Core.Path.{_≡_, refl, sym, ap, ap₂, subst, _∙_}
-use mathlib.Core.List.{List, [], _∷_, _++_, append-nil}
-use Prim.Native.Nat.{ℕ, suc, _+_, _-_, _*_, _/_, _%_, _^_, _<_, _≤_}
-use native.Mathlib.Nat as N
+use mathlib.Core.Bool.{Bool, true, false, not, _||_}
+use mathlib.Core.Path.{_≡_, refl, sym, ap, _∙_}
+use mathlib.Core.List.{List, [], _∷_, _++_}
+use Prim.Native.Nat.{ℕ, _-_, _*_, _/_, _%_, _^_, _<_, _≤_}
 use native.Mathlib.Omega.{arith}
 use native.Mathlib.Decide.{decLt}
-use lib.Dec.{ltb, eqb}
+use lib.Dec.{ltb}
 use lib.IntN.{ℤ}
-use lib.ListN.{length, take, drop, replicate, length-append, length-replicate}
+use lib.ListN.{length, take, drop, replicate, length-append}
 use lib.Seq.{length-take-le, take-at}
-use borrow.Author.Tests.{lt-ltb, le-ltb, ltb-true, ltb-false, eq-eqb, ne-eqb, not-true, not-false}
+use borrow.Author.Tests.{lt-ltb, le-ltb, ltb-false, eq-eqb, ne-eqb, not-true, not-false}
 use Rattle.triple.specs.declared.Triple.{Triple}
 use Rattle.triple.specs.declared.domain.DomainAnswer.{DomainAnswer}
 use Rattle.triple.specs.declared.refusal.Refusal.{Refusal}
@@ -25,8 +24,8 @@ use Rattle.triple.proofs.LentLaws.{refused-count, refused-kept, count-whole}
 use Rattle.lsystem.specs.Cells.{positionOf}
 use Rattle.lsystem.proofs.Numbering.{triple-named}
 use Rattle.fold.specs.Cells.{pairs}
-use Rattle.fold.specs.Folds.{has, allBelow, foldOf, foldCall}
-use Rattle.fold.proofs.ListLaws.{both-true}
+use Rattle.fold.specs.Folds.{allBelow, foldOf, foldCall}
+use Rattle.whole.proofs.Bools.{both-true}
 use Rattle.fold.proofs.CallLaws.{fold-told}
 use Rattle.report.specs.Reports.{triplesIn, every, placeIn, placesOf, inOrder, settled, reportCall, tooShort, reportTo, workTo}
 use Rattle.report.specs.Inside.Triples.{Reported}

@@ -1,26 +1,25 @@
 -- Triples one after another: the tests of a report, and the positions that are gathered.
-use mathlib.Core.Bool.{Bool, true, false, not, cond, _&&_}
-use mathlib.Core.Path.{_≡_, refl, sym, ap, ap₂, _∙_}
+use mathlib.Core.Bool.{Bool, true, false, not, _&&_}
+use mathlib.Core.Path.{_≡_, refl, sym, ap, _∙_}
 use mathlib.Core.List.{List, [], _∷_, _++_, append-nil}
 use Prim.Native.Nat.{ℕ, zero, suc, _+_, _-_, _*_, _/_, _^_, _<_, _≤_}
 use native.Mathlib.Nat as N
 use native.Mathlib.Numerals.{add-one}
 use native.Mathlib.Omega.{arith}
-use lib.Dec.{leb, ltb}
+use lib.Dec.{leb}
 use lib.IntN.{ℤ, pos}
-use lib.ListN.{length, getD, drop, set, replicate, length-set, length-drop, length-replicate, getD-replicate, drop-of-length-le}
-use lib.Seq.{drop-cons}
+use lib.ListN.{length, getD, drop, set, replicate, length-set, length-replicate, getD-replicate, drop-of-length-le}
 use lib.Signed.{mag}
 use mir.Syntax.{w32}
 use mir.Val.{toZ, ofZ}
 use mir.ValLaws.{toZ-ofZ}
-use borrow.Author.Tests.{not-true, not-false, le-leb, lt-ltb}
+use borrow.Author.Tests.{not-true, not-false, le-leb}
 use Rattle.whole.proofs.Fill.{poured, poured-more, poured-all}
 use Rattle.triple.specs.declared.Triple.{Triple}
 use Rattle.triple.specs.declared.ParityAnswer.{ParityAnswer}
 use Rattle.triple.specs.declared.refusal.Refusal.{Refusal}
 use Rattle.triple.specs.declared.refusal.Refusal.the-variants as Is
-use Rattle.triple.specs.Refusals.{Told, told, refused, refuse, numberOf}
+use Rattle.triple.specs.Refusals.{told, refused, refuse, numberOf}
 use Rattle.triple.specs.Answers.{saidParity}
 use Rattle.triple.specs.Triples.{goodSum, inBounds, parityOf}
 use Rattle.triple.proofs.RefusalLaws.{never}

@@ -12,7 +12,6 @@ use lib.Dec.{eqb}
 use lib.ListN.{length, take, drop, length-append, take-append-drop, List·getD-append}
 use lib.Seq.{getD-at, append-snoc, length-take-le}
 use borrow.Author.Tests.{eq-eqb, eqb-true, not-false}
-use Rattle.triple.specs.declared.refusal.Refusal.the-variants as Is
 use Rattle.triple.specs.Refusals.{Told, told, refused, numberOf}
 use Rattle.triple.proofs.RefusalLaws.{never}
 use Rattle.code.specs.declared.Reading.{Reading}

@@ -1,5 +1,5 @@
 -- How the code goes along two areas at once: from a place on the curve at resolution 30, with a cursor in each, to the next place where one of them begins or ends.
-use mathlib.Core.Bool.{Bool, true, false, _&&_}
+use mathlib.Core.Bool.{Bool, _&&_}
 use mathlib.Core.Path.{_≡_}
 use mathlib.Core.List.{List, [], _∷_}
 use Prim.Native.Nat.{ℕ, suc, _+_, _-_, _*_, _%_, _^_, _<_, _≤_}
