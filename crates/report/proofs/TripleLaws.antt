@@ -23,9 +23,11 @@ use Rattle.triple.specs.Refusals.{told, refused, refuse, numberOf}
 use Rattle.triple.specs.Answers.{saidParity}
 use Rattle.triple.specs.Triples.{goodSum, inBounds, parityOf}
 use Rattle.triple.proofs.RefusalLaws.{never}
-use Rattle.lsystem.specs.declared.Position.{Position}
+use Rattle.lsystem.specs.declared.Located.{Located}
 use Rattle.lsystem.specs.declared.lookup.PositionAnswer.{PositionAnswer}
-use Rattle.lsystem.specs.Answers.{saidPosition}
+use Rattle.lsystem.specs.Answers.{saidLocated, saidPosition}
+use Rattle.lsystem.specs.Looks.{locatedOf}
+use Rattle.lsystem.proofs.LookLaws.{position-said}
 use Rattle.lsystem.specs.Cells.{positionOf}
 use Rattle.report.specs.Reports.{triplesIn, every, placeIn, placesOf}
 use Rattle.report.specs.Inside.Triples.{tripleAt}
@@ -131,12 +133,15 @@ module _ (r : ℕ) (xs : List ℤ) (low : r ≤ 30) {k : ℕ} (testing : Testing
 pub ruleset boundings = (testing-none, triple-inside, bounds-not, bounds-more, testing-all)
 
 -- ---- positions
-module _ (o r : ℕ) (t : Triple) {a : PositionAnswer} (ea : saidPosition a ≡ positionOf o r t) where
-  pub place-told : {p : Position} → a ≡ PositionAnswer.At p → p .s ≡ placeIn (positionOf o r t)
-  place-told m = ap placeIn (sym (ap saidPosition m) ∙ ea)
+module _ (o r : ℕ) (t : Triple) (a : PositionAnswer) (ea : saidLocated a ≡ locatedOf o r t) where
+  found : saidPosition a ≡ positionOf o r t
+  found = position-said o r t a ea
+
+  pub place-told : {l : Located} → a ≡ PositionAnswer.At l → l .position .s ≡ placeIn (positionOf o r t)
+  place-told m = ap placeIn (sym (ap saidPosition m) ∙ found)
 
   pub place-none : {e : Refusal} → a ≡ PositionAnswer.Refused e → 0 ≡ placeIn (positionOf o r t)
-  place-none m = ap placeIn (sym (ap saidPosition m) ∙ ea)
+  place-none m = ap placeIn (sym (ap saidPosition m) ∙ found)
 
 pub ruleset places = (place-told, place-none)
 

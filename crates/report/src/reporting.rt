@@ -151,7 +151,7 @@ fn place_of(orientation: u8, resolution: u8, t: Triple) -> u64
 {
     let answer = triple_to_s(orientation, resolution, t);
     match answer {
-        PositionAnswer::At(p) => p.s,
+        PositionAnswer::At(l) => l.position.s,
         PositionAnswer::Refused(_) => 0,
     }
 }
