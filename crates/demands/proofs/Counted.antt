@@ -16,7 +16,8 @@ use Rattle.lsystem.specs.Looks.{looksOf, withLooks, locatedOf}
 use Rattle.lsystem.proofs.Numbering.{told-in}
 use Rattle.lsystem.proofs.LookLaws.{own-safe, looks-position, looks-names, looks-picks, looks-comparisons, no-looks, located-told}
 use Rattle.demands.specs.Lookups.{Lookup, Lookups}
-use Rattle.demands.proofs.ToldLaws.{told-same, told-refused}
+use Rattle.triple.proofs.RefusalLaws.{told-same}
+use Rattle.demands.proofs.ToldLaws.{told-refused}
 
 together : (r p c d : ℕ) → p ≡ r - 1 → (1 ≤ r → c ≡ d % 4 + 1) → (r ≡ 0 → c ≡ 0) → p + c ≤ r + 3
 together zero p c d e f g = omega (arith, g refl)
