@@ -51,8 +51,8 @@ fn looked_up(orientation: u8, resolution: u8, t: Triple, flavor: u8) -> Located
     let recipe = recipe_of(orientation);
     let s = place_from(recipe.backward, position_count(resolution), place);
     Located {
-        position: Position { s, flavor },
         picks: resolution - 1,
+        position: Position { s, flavor },
         comparisons: (place % 4) as u8 + 1,
     }
 }
@@ -72,8 +72,8 @@ pub fn triple_to_s(orientation: u8, resolution: u8, t: Triple) -> PositionAnswer
                 return PositionAnswer::At(looked_up(orientation, resolution, t, flavor));
             }
             PositionAnswer::At(Located {
-                position: Position { s: 0, flavor },
                 picks: 0,
+                position: Position { s: 0, flavor },
                 comparisons: 0,
             })
         }
