@@ -13,5 +13,7 @@ pub mod ReportLaws
 -- ---- the call
 -- what it covers, and that neither order nor repetition matters
 pub mod CallLaws
+-- that the room it asks for is all that it may take
+pub mod RoomLaws
 -- the contract allows one result alone
 pub mod Determined
