@@ -15,8 +15,8 @@
  * functions compute in whole numbers, and what is double there is exact in every mode. A call may raise
  * floating-point flags, and none may be set to trap.
  *
- * A call takes at most 16 KB of stack for hb_compile, 9 KB for hb_check, 4 KB for hb_draw, 2 KB for
- * hb_line, and 512 bytes for any other.
+ * A call takes at most 16 KB of stack for hb_compile, 9 KB for hb_check, 6 KB for hb_area_report, 4 KB
+ * for hb_draw, 2 KB for hb_line, and 512 bytes for any other.
  *
  * orientation  0 to 5: UV, VU, UW, WU, VW, WV
  * resolution   0 to 30
@@ -212,6 +212,17 @@ uint8_t hb_area_contains(const uint64_t *a, size_t a_len, uint8_t resolution, ui
 /* How many cells of a resolution an area covers.
  * Values: their number (1). Refusals: 1 (also where a pair is finer than the resolution), 3, 25, 10. */
 uint8_t hb_area_size(const uint64_t *a, size_t a_len, uint8_t resolution, uint64_t *out, size_t out_len);
+
+/* The area that a module reports: the cells of triples, x y z each, in any order and repeated or not. It is
+ * handed work, one number for each triple; afterwards that holds the positions, ascending and each once,
+ * then zeros. pairs has to have room for two numbers a triple even where they fold to fewer: how many it
+ * takes is known only once work is written over, and a refused call changes nothing.
+ * Values: the pairs, folded, to pairs, and how many cells (1) to count; these and work are written or, on
+ * a refusal, none. Refusals: 1, 2, 4 where any triple's sum is neither 0 nor 1, 5 where any is out of
+ * bounds, 25 where numbers are left that are no triple, 10 (work, pairs, count). */
+uint8_t hb_area_report(uint8_t orientation, uint8_t resolution, const int32_t *triples, size_t triples_len,
+                       uint64_t *work, size_t work_len, uint64_t *pairs, size_t pairs_len, uint64_t *count,
+                       size_t count_len);
 
 /* Mends a list of codes that stand one after another: sound codes are copied, spare bits are cleared, old
  * codes are turned forward, and a byte where no code can be read is dropped.

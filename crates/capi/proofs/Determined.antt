@@ -10,7 +10,7 @@ use Rattle.sketch.specs.Drawings.{drawCall}
 use Rattle.capi.specs.Verdicts.{checkCall}
 use Rattle.capi.specs.Calls.{cellCall, positionCall, nodeCall, stepCall, pointCall, exactPointCall, cornerCall, tripleCall, writeCall, readCall, wktWriteCall, wktReadCall, foldedCall, unfoldedCall, mendBoth, mendStepBoth, lineCall, descendCall, CompileCalled}
 use Rattle.area.specs.declared.operation.Operation.the-variants as For
-use Rattle.capi.specs.AreaCalls.{combinedCall, areaContainsCall, areaSizeCall}
+use Rattle.capi.specs.AreaCalls.{combinedCall, areaContainsCall, areaSizeCall, ReportCalled}
 
 -- ---- whatever the call gives
 module _ {A : Type 0} (call : Told (List A)) (slice : List A) where
@@ -116,3 +116,7 @@ hb-area-contains-determined a r s = called-once (areaContainsCall a r s)
 pub hb-area-size-determined : (a : List ℕ) (r : ℕ) (out : List ℕ) (m n : ℕ) (x y : List ℕ)
     → Called (areaSizeCall a r) out m x → Called (areaSizeCall a r) out n y → (m ≡ n) × (x ≡ y)
 hb-area-size-determined a r = called-once (areaSizeCall a r)
+
+pub hb-area-report-determined : (o r : ℕ) (xs : List ℤ) (work pairs count : List ℕ) (m n : ℕ) (p q v w x y : List ℕ)
+    → ReportCalled o r xs work pairs count m p v x → ReportCalled o r xs work pairs count n q w y → (m ≡ n) × (p ≡ q) × (v ≡ w) × (x ≡ y)
+hb-area-report-determined o r xs work pairs count m n p q v w x y f g = (f .0 ∙ sym (g .0), f .1 ∙ sym (g .1), f .2 ∙ sym (g .2), f .3 ∙ sym (g .3))

@@ -8,6 +8,8 @@ pub mod CountedLaws
 -- ---- areas
 -- a flag as its number
 pub mod AreaCallLaws
+-- a report, where the count has a place and where it has none
+pub mod ReportCallLaws
 -- ---- mending
 -- values to one slice, and a few numbers of how many they are to another
 pub mod MendLaws

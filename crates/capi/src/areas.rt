@@ -4,13 +4,14 @@ ghost use mathlib.Core.Path.{_≡_};
 ghost use Rattle.triple.specs.Refusals.{told};
 ghost use Rattle.triple.specs.Lent.{statusOf, afterCall, firstOf, secondOf};
 ghost use Rattle.area.specs.declared.operation.Operation.{Operation};
-ghost use Rattle.capi.specs.AreaCalls.{combinedCall, flagValues, areaContainsCall, areaSizeCall};
+ghost use Rattle.capi.specs.AreaCalls.{combinedCall, flagValues, areaContainsCall, areaSizeCall, reportedCall, reportedWork};
 use crate::put::lendable;
 use crate::put::put_count;
 use area::combining::AreaAnswer;
 use area::operation::Operation;
 use area::questions::ContainsAnswer;
 use area::questions::SizeAnswer;
+use fold::folding::FoldAnswer;
 
 // What an operation makes of two areas: the pairs to `pairs`, and how many cells they are to `count`.
 fn combined(operation: Operation, a: &[u64], b: &[u64], pairs: &mut [u64], count: &mut [u64]) -> u8
@@ -89,5 +90,32 @@ pub extern "C" fn hb_area_size(a: &[u64], resolution: u8, out: &mut [u64]) -> u8
     match answer {
         SizeAnswer::Cells(cells) => put_count(cells as usize, out),
         SizeAnswer::Refused(e) => e.number(),
+    }
+}
+
+// The area that a module reports by triples, in any order and repeated or not, folded: its pairs, and how
+// many cells they are to `count`. `work` has one number for each triple.
+#[no_mangle]
+pub extern "C" fn hb_area_report(
+    orientation: u8,
+    resolution: u8,
+    triples: &[i32],
+    work: &mut [u64],
+    pairs: &mut [u64],
+    count: &mut [u64],
+) -> u8
+    ensures { λ n. ⌜ (n ≡ statusOf (firstOf (reportedCall orientation resolution (now (triples .entry)) (now (work .entry)) (now (pairs .entry))) (now (count .entry))) (now (pairs .entry))) × (now (pairs .exit) ≡ afterCall (firstOf (reportedCall orientation resolution (now (triples .entry)) (now (work .entry)) (now (pairs .entry))) (now (count .entry))) (now (pairs .entry))) × (now (count .exit) ≡ afterCall (secondOf (reportedCall orientation resolution (now (triples .entry)) (now (work .entry)) (now (pairs .entry))) (now (pairs .entry))) (now (count .entry))) × (now (work .exit) ≡ afterCall (reportedWork orientation resolution (now (triples .entry)) (now (work .entry)) (now (pairs .entry)) (now (count .entry))) (now (work .entry))) ⌝ }
+{
+    let room = lendable(pairs.len(), count.len());
+    let answer = report::reporting::report(
+        orientation,
+        resolution,
+        triples,
+        work,
+        &mut pairs[..room],
+    );
+    match answer {
+        FoldAnswer::Folded(cells) => put_count(cells, count),
+        FoldAnswer::Refused(e) => e.number(),
     }
 }
