@@ -4,6 +4,9 @@ extern "C" {
     fn hb_position(o: u8, r: u8, x: i32, y: i32, z: i32, out: *mut u64, len: usize) -> u8;
     fn hb_draw(o: u8, r: u8, out: *mut i32, len: usize) -> u8;
     fn hb_fold(o: u8, r: u8, positions: *const u64, positions_len: usize, pairs: *mut u64, pairs_len: usize, count: *mut u64, len: usize) -> u8;
+    fn hb_area_union(a: *const u64, a_len: usize, b: *const u64, b_len: usize, pairs: *mut u64, pairs_len: usize, count: *mut u64, len: usize) -> u8;
+    fn hb_area_intersection(a: *const u64, a_len: usize, b: *const u64, b_len: usize, pairs: *mut u64, pairs_len: usize, count: *mut u64, len: usize) -> u8;
+    fn hb_area_report(o: u8, r: u8, triples: *const i32, triples_len: usize, work: *mut u64, work_len: usize, pairs: *mut u64, pairs_len: usize, count: *mut u64, len: usize) -> u8;
     fn hb_mend(list: *const u8, list_len: usize, out: *mut u8, out_len: usize, counts: *mut u64, len: usize) -> u8;
     fn hb_check(list: *const u8, list_len: usize, out: *mut u64, len: usize) -> u8;
     fn hb_point(i: f64, j: f64, r: u8, out: *mut i32, len: usize) -> u8;
@@ -37,6 +40,28 @@ pub fn draw(o: u8, r: u8) -> Result<Vec<i32>, u8> {
 pub fn fold(o: u8, r: u8, positions: &[u64], pairs: &mut [u64]) -> Result<usize, u8> {
     let mut count = [0; 1];
     let status = unsafe { hb_fold(o, r, positions.as_ptr(), positions.len(), pairs.as_mut_ptr(), pairs.len(), count.as_mut_ptr(), 1) };
+    told(status, count[0] as usize)
+}
+
+// How many cells the union of two areas has; they are written to `pairs`.
+pub fn area_union(a: &[u64], b: &[u64], pairs: &mut [u64]) -> Result<usize, u8> {
+    let mut count = [0; 1];
+    let status = unsafe { hb_area_union(a.as_ptr(), a.len(), b.as_ptr(), b.len(), pairs.as_mut_ptr(), pairs.len(), count.as_mut_ptr(), 1) };
+    told(status, count[0] as usize)
+}
+
+// And their intersection.
+pub fn area_intersection(a: &[u64], b: &[u64], pairs: &mut [u64]) -> Result<usize, u8> {
+    let mut count = [0; 1];
+    let status = unsafe { hb_area_intersection(a.as_ptr(), a.len(), b.as_ptr(), b.len(), pairs.as_mut_ptr(), pairs.len(), count.as_mut_ptr(), 1) };
+    told(status, count[0] as usize)
+}
+
+// How many cells the triples of a report are, folded; they are written to `pairs`, and their positions to `work`.
+pub fn area_report(o: u8, r: u8, triples: &[i32], work: &mut [u64], pairs: &mut [u64]) -> Result<usize, u8> {
+    let mut count = [0; 1];
+    let (from, free, to) = (triples.as_ptr(), work.as_mut_ptr(), pairs.as_mut_ptr());
+    let status = unsafe { hb_area_report(o, r, from, triples.len(), free, work.len(), to, pairs.len(), count.as_mut_ptr(), 1) };
     told(status, count[0] as usize)
 }
 

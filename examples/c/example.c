@@ -351,6 +351,97 @@ static void folds(void)
     printf("unfold a cell inside another: ! %d, left %" PRIu64 ", count left %" PRIu64 "\n", status, left[0], count[0]);
 }
 
+/* Cells of resolution 3, as modules report them. */
+enum { CELLS = 64 };
+
+struct area {
+    uint64_t pairs[4 * CELLS];
+    size_t length;
+};
+
+static void show_area(const struct area *area)
+{
+    for (size_t k = 0; k < area->length; k += 2)
+        printf(" %" PRIu64 "/%" PRIu64, area->pairs[k], area->pairs[k + 1]);
+}
+
+/* The triples of positions, as a module has them. */
+static void triples_of(const uint64_t *positions, size_t length, int32_t *triples)
+{
+    int32_t named[4];
+    for (size_t k = 0; k < length; k++) {
+        hb_cell(0, 3, positions[k], named, 4);
+        memcpy(triples + 3 * k, named, 3 * sizeof *named);
+    }
+}
+
+/* A module's report of cells, in whatever order they come, united with the total; how many cells the total
+ * has then, by its size and counted one by one; and whether uniting the report again changes it. */
+static void report(const char *name, const uint64_t *positions, size_t length, struct area *total)
+{
+    static int seen[CELLS];
+    int32_t triples[3 * CELLS];
+    uint64_t work[CELLS], count[1], size[1], distinct = 0;
+    struct area area, again;
+    triples_of(positions, length, triples);
+    uint8_t status = hb_area_report(0, 3, triples, 3 * length, work, CELLS, area.pairs, 2 * CELLS, count, 1);
+    area.length = 2 * (size_t)count[0];
+    printf("report %s: %d,", name, status);
+    show_area(&area);
+    hb_area_union(total->pairs, total->length, area.pairs, area.length, again.pairs, 4 * CELLS, count, 1);
+    again.length = 2 * (size_t)count[0];
+    *total = again;
+    hb_area_union(total->pairs, total->length, area.pairs, area.length, again.pairs, 4 * CELLS, count, 1);
+    again.length = 2 * (size_t)count[0];
+    int same = again.length == total->length && memcmp(again.pairs, total->pairs, total->length * sizeof *total->pairs) == 0;
+    hb_area_size(total->pairs, total->length, 3, size, 1);
+    for (size_t k = 0; k < length; k++)
+        seen[positions[k]] = 1;
+    for (size_t s = 0; s < CELLS; s++)
+        distinct += (uint64_t)seen[s];
+    printf("; the total has %" PRIu64 " cells of %" PRIu64 ", united again the same: %s\n", size[0], distinct, same ? "yes" : "no");
+}
+
+/* Three modules report, the second of them twice, in pieces and out of order. */
+static void reports(void)
+{
+    struct area total = {{0}, 0}, none = {{0}, 0}, part;
+    uint64_t count[1], flag[1];
+    report("of the first", (const uint64_t[]){3, 1, 0, 2, 7, 6, 5, 4, 9, 9, 3}, 11, &total);
+    report("of the second, a piece", (const uint64_t[]){23, 22, 8}, 3, &total);
+    report("of the second, the rest", (const uint64_t[]){20, 9, 10, 21, 11}, 5, &total);
+    report("of the third", (const uint64_t[]){63, 15, 13, 14, 12, 63}, 6, &total);
+    report("of the second, again", (const uint64_t[]){8, 9, 10, 11, 20, 21, 22, 23}, 8, &total);
+    report("of nothing", NULL, 0, &total);
+    printf("the total:");
+    show_area(&total);
+    hb_area_intersection(total.pairs, total.length, (const uint64_t[]){2, 5, 1, 3}, 4, part.pairs, 4 * CELLS, count, 1);
+    part.length = 2 * (size_t)count[0];
+    printf("; in 2/5 or 1/3:");
+    show_area(&part);
+    hb_area_difference(total.pairs, total.length, (const uint64_t[]){3, 0, 1, 3}, 4, part.pairs, 4 * CELLS, count, 1);
+    part.length = 2 * (size_t)count[0];
+    printf("; without 3/0 and 1/3:");
+    show_area(&part);
+    hb_area_contains(part.pairs, part.length, 2, 5, flag, 1);
+    printf("; has all of 2/5: %" PRIu64, flag[0]);
+    hb_area_contains(part.pairs, part.length, 1, 0, flag, 1);
+    printf(", of 1/0: %" PRIu64 "\n", flag[0]);
+
+    int32_t triples[7] = {0};
+    uint64_t work[2] = {7, 7};
+    triples_of((const uint64_t[]){1, 0}, 2, triples);
+    count[0] = 7;
+    uint8_t status = hb_area_report(0, 3, triples, 7, work, 2, none.pairs, 4, count, 1);
+    printf("report two triples and a number: ! %d\n", status);
+    status = hb_area_report(0, 3, triples, 6, work, 2, none.pairs, 3, count, 1);
+    printf("report two triples into three places: ! %d, left %" PRIu64 " %" PRIu64 " %" PRIu64 " %" PRIu64 "\n", status, work[0], work[1], none.pairs[0], count[0]);
+    status = hb_area_report(0, 3, triples, 6, work, 2, none.pairs, 4, NULL, 0);
+    printf("report them with no place for the count: ! %d, left %" PRIu64 " %" PRIu64 " %" PRIu64 "\n", status, work[0], work[1], none.pairs[0]);
+    status = hb_area_report(0, 3, triples, 6, work, 2, none.pairs, 4, count, 1);
+    printf("report them: %d, %" PRIu64 " cells, work %" PRIu64 " %" PRIu64 "\n", status, count[0], work[0], work[1]);
+}
+
 /* A refused call leaves what it was lent as it was. Where a length is 0 there need be no array. */
 static void refused(void)
 {
@@ -426,6 +517,7 @@ int main(void)
     mend();
     checks();
     folds();
+    reports();
     polygon(0, 0, 0, 0);
     polygon(1, 0, 1, 0);
     polygon(30, -1073741823, 1073741823, 0);

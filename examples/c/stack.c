@@ -18,6 +18,8 @@ static int32_t numbers[8], table[HB_TABLE_NUMBERS], drawing[HB_DRAWING_NUMBERS];
 static int64_t sums[3];
 static uint64_t out[5];
 static uint64_t run[64] = {0, 1, 2, 3, 4, 5, 6, 7, 8, 9, 10, 11, 12, 13, 14, 15};
+static const uint64_t WHOLE[2] = {0, 0}, DEEP[2] = {30, (UINT64_C(1) << 60) - 1};
+static uint64_t made[192];
 static double places[2];
 static uint8_t bytes[HB_CODE_BYTES], text[HB_ANSWER_BYTES], polygon[HB_WKT_BYTES];
 
@@ -34,6 +36,11 @@ static void code_write(void) { hb_code_write(5, 30, LAST, bytes, HB_CODE_BYTES, 
 static void code_read(void) { hb_code_read(bytes, HB_CODE_BYTES, out, 5); }
 static void fold(void) { hb_fold(5, 30, run, 16, run + 16, 32, out, 4); }
 static void unfold(void) { hb_unfold(5, 30, run + 48, 2, run, 64, out, 4); }
+static void area_union(void) { hb_area_union(WHOLE, 2, DEEP, 2, made, 192, out, 4); }
+static void area_intersection(void) { hb_area_intersection(WHOLE, 2, DEEP, 2, made, 192, out, 4); }
+static void area_difference(void) { hb_area_difference(WHOLE, 2, DEEP, 2, made, 192, out, 4); }
+static void area_contains(void) { hb_area_contains(WHOLE, 2, 30, LAST, out, 4); }
+static void area_size(void) { hb_area_size(WHOLE, 2, 30, out, 4); }
 static void mend(void) { hb_mend(bytes, HB_CODE_BYTES, text, HB_ANSWER_BYTES, out, 2); }
 static void mend_step(void) { hb_mend_step(bytes, HB_CODE_BYTES, text, HB_ANSWER_BYTES, out, 3); }
 static void check(void) { hb_check(bytes, HB_CODE_BYTES, out, 2); }
@@ -41,6 +48,16 @@ static void wkt_write(void) { hb_wkt_write(30, -1073741823, 1073741823, 0, polyg
 static void wkt_read(void) { hb_wkt_read(30, polygon, HB_WKT_BYTES, numbers, 6); }
 static void descend(void) { hb_descend(table, HB_TABLE_NUMBERS, 0, 28, 30, 13, LAST, sums, 3); }
 static void compile(void) { hb_compile((const uint8_t *)A5, sizeof A5 - 1, table, HB_TABLE_NUMBERS, 0, out, 4); }
+
+/* Two triples whose positions differ in the last bit alone, the greater first: no report goes deeper. */
+static void area_report(void)
+{
+    uint64_t work[2];
+    int32_t cells[8] = {0};
+    hb_cell(5, 30, 1, cells, 4);
+    hb_cell(5, 30, 0, cells + 3, 4);
+    hb_area_report(5, 30, cells, 6, work, 2, made, 4, out, 4);
+}
 
 static void line(void)
 {
@@ -68,6 +85,12 @@ static const struct {
     {"hb_code_read", code_read, 512},
     {"hb_fold", fold, 512},
     {"hb_unfold", unfold, 512},
+    {"hb_area_union", area_union, 512},
+    {"hb_area_intersection", area_intersection, 512},
+    {"hb_area_difference", area_difference, 512},
+    {"hb_area_contains", area_contains, 512},
+    {"hb_area_size", area_size, 512},
+    {"hb_area_report", area_report, 6144},
     {"hb_mend", mend, 512},
     {"hb_mend_step", mend_step, 512},
     {"hb_check", check, 9216},

@@ -71,6 +71,57 @@ mod ffi {
             count: *mut u64,
             count_len: usize,
         ) -> u8;
+        pub fn hb_area_union(
+            a: *const u64,
+            a_len: usize,
+            b: *const u64,
+            b_len: usize,
+            pairs: *mut u64,
+            pairs_len: usize,
+            count: *mut u64,
+            count_len: usize,
+        ) -> u8;
+        pub fn hb_area_intersection(
+            a: *const u64,
+            a_len: usize,
+            b: *const u64,
+            b_len: usize,
+            pairs: *mut u64,
+            pairs_len: usize,
+            count: *mut u64,
+            count_len: usize,
+        ) -> u8;
+        pub fn hb_area_difference(
+            a: *const u64,
+            a_len: usize,
+            b: *const u64,
+            b_len: usize,
+            pairs: *mut u64,
+            pairs_len: usize,
+            count: *mut u64,
+            count_len: usize,
+        ) -> u8;
+        pub fn hb_area_contains(
+            a: *const u64,
+            a_len: usize,
+            resolution: u8,
+            s: u64,
+            out: *mut u64,
+            out_len: usize,
+        ) -> u8;
+        pub fn hb_area_size(a: *const u64, a_len: usize, resolution: u8, out: *mut u64, out_len: usize) -> u8;
+        pub fn hb_area_report(
+            orientation: u8,
+            resolution: u8,
+            triples: *const i32,
+            triples_len: usize,
+            work: *mut u64,
+            work_len: usize,
+            pairs: *mut u64,
+            pairs_len: usize,
+            count: *mut u64,
+            count_len: usize,
+        ) -> u8;
         pub fn hb_code_read(bytes: *const u8, bytes_len: usize, out: *mut u64, out_len: usize) -> u8;
         pub fn hb_mend(
             list: *const u8,
@@ -190,6 +241,44 @@ mod haspbarley {
     pub fn unfold(orientation: u8, resolution: u8, pairs: &[u64], positions: &mut [u64], count: &mut [u64]) -> u8 {
         let (to, n) = (positions.as_mut_ptr(), positions.len());
         unsafe { ffi::hb_unfold(orientation, resolution, pairs.as_ptr(), pairs.len(), to, n, count.as_mut_ptr(), count.len()) }
+    }
+
+    pub fn area_union(a: &[u64], b: &[u64], pairs: &mut [u64], count: &mut [u64]) -> u8 {
+        let (to, n) = (pairs.as_mut_ptr(), pairs.len());
+        unsafe { ffi::hb_area_union(a.as_ptr(), a.len(), b.as_ptr(), b.len(), to, n, count.as_mut_ptr(), count.len()) }
+    }
+
+    pub fn area_intersection(a: &[u64], b: &[u64], pairs: &mut [u64], count: &mut [u64]) -> u8 {
+        let (to, n) = (pairs.as_mut_ptr(), pairs.len());
+        unsafe { ffi::hb_area_intersection(a.as_ptr(), a.len(), b.as_ptr(), b.len(), to, n, count.as_mut_ptr(), count.len()) }
+    }
+
+    pub fn area_difference(a: &[u64], b: &[u64], pairs: &mut [u64], count: &mut [u64]) -> u8 {
+        let (to, n) = (pairs.as_mut_ptr(), pairs.len());
+        unsafe { ffi::hb_area_difference(a.as_ptr(), a.len(), b.as_ptr(), b.len(), to, n, count.as_mut_ptr(), count.len()) }
+    }
+
+    pub fn area_contains(a: &[u64], resolution: u8, s: u64, out: &mut [u64]) -> u8 {
+        unsafe { ffi::hb_area_contains(a.as_ptr(), a.len(), resolution, s, out.as_mut_ptr(), out.len()) }
+    }
+
+    pub fn area_size(a: &[u64], resolution: u8, out: &mut [u64]) -> u8 {
+        unsafe { ffi::hb_area_size(a.as_ptr(), a.len(), resolution, out.as_mut_ptr(), out.len()) }
+    }
+
+    pub fn area_report(
+        orientation: u8,
+        resolution: u8,
+        triples: &[i32],
+        work: &mut [u64],
+        pairs: &mut [u64],
+        count: &mut [u64],
+    ) -> u8 {
+        let (from, free, to) = (triples.as_ptr(), work.as_mut_ptr(), pairs.as_mut_ptr());
+        let (triples, work, pairs) = (triples.len(), work.len(), pairs.len());
+        unsafe {
+            ffi::hb_area_report(orientation, resolution, from, triples, free, work, to, pairs, count.as_mut_ptr(), count.len())
+        }
     }
 
     pub fn code_read(bytes: &[u8], out: &mut [u64]) -> u8 {
@@ -435,6 +524,84 @@ fn folds() {
     println!("unfold a cell inside another: ! {status}, left {}, count left {}", left[0], count[0]);
 }
 
+/// An area's pairs, as they are shown.
+fn shown(area: &[u64]) -> String {
+    area.chunks(2).map(|pair| format!(" {}/{}", pair[0], pair[1])).collect()
+}
+
+/// The triples of positions at resolution 3, as a module has them.
+fn triples_of(positions: &[u64]) -> Vec<i32> {
+    let mut named = [0; 4];
+    let mut triple = |&s: &u64| {
+        haspbarley::cell(0, 3, s, &mut named);
+        [named[0], named[1], named[2]]
+    };
+    positions.iter().flat_map(|s| triple(s)).collect()
+}
+
+type Operation = fn(&[u64], &[u64], &mut [u64], &mut [u64]) -> u8;
+
+/// What an operation makes of two areas.
+fn made(operation: Operation, a: &[u64], b: &[u64]) -> Vec<u64> {
+    let (mut pairs, mut count) = ([0; 4 * 64], [0]);
+    operation(a, b, &mut pairs, &mut count);
+    pairs[..2 * count[0] as usize].to_vec()
+}
+
+/// What modules have reported: as an area, and cell by cell.
+struct Total {
+    area: Vec<u64>,
+    seen: [bool; 64],
+}
+
+impl Total {
+    /// A module's report of cells, in whatever order they come, united with the total; how many cells the
+    /// total has then, by its size and counted one by one; and whether uniting the report again changes it.
+    fn report(&mut self, name: &str, positions: &[u64]) {
+        let (mut work, mut pairs, mut count, mut size) = ([0; 64], [0; 128], [0], [0]);
+        let status = haspbarley::area_report(0, 3, &triples_of(positions), &mut work, &mut pairs, &mut count);
+        let area = &pairs[..2 * count[0] as usize];
+        self.area = made(haspbarley::area_union, &self.area, area);
+        let same = made(haspbarley::area_union, &self.area, area) == self.area;
+        haspbarley::area_size(&self.area, 3, &mut size);
+        positions.iter().for_each(|&s| self.seen[s as usize] = true);
+        let distinct = self.seen.iter().filter(|&&seen| seen).count();
+        print!("report {name}: {status},{}; the total has {} cells of {distinct}", shown(area), size[0]);
+        println!(", united again the same: {}", if same { "yes" } else { "no" });
+    }
+}
+
+/// Three modules report, the second of them twice, in pieces and out of order.
+fn reports() {
+    let mut total = Total { area: Vec::new(), seen: [false; 64] };
+    total.report("of the first", &[3, 1, 0, 2, 7, 6, 5, 4, 9, 9, 3]);
+    total.report("of the second, a piece", &[23, 22, 8]);
+    total.report("of the second, the rest", &[20, 9, 10, 21, 11]);
+    total.report("of the third", &[63, 15, 13, 14, 12, 63]);
+    total.report("of the second, again", &[8, 9, 10, 11, 20, 21, 22, 23]);
+    total.report("of nothing", &[]);
+    let total = total.area;
+    let part = made(haspbarley::area_intersection, &total, &[2, 5, 1, 3]);
+    print!("the total:{}; in 2/5 or 1/3:{}", shown(&total), shown(&part));
+    let part = made(haspbarley::area_difference, &total, &[3, 0, 1, 3]);
+    let mut flags = [0; 2];
+    haspbarley::area_contains(&part, 2, 5, &mut flags[..1]);
+    haspbarley::area_contains(&part, 1, 0, &mut flags[1..]);
+    println!("; without 3/0 and 1/3:{}; has all of 2/5: {}, of 1/0: {}", shown(&part), flags[0], flags[1]);
+
+    let (mut triples, mut work, mut pairs, mut count) = (triples_of(&[1, 0]), [7; 2], [0; 4], [7]);
+    triples.push(0);
+    let status = haspbarley::area_report(0, 3, &triples, &mut work, &mut pairs, &mut count);
+    println!("report two triples and a number: ! {status}");
+    let triples = &triples[..6];
+    let status = haspbarley::area_report(0, 3, triples, &mut work, &mut pairs[..3], &mut count);
+    println!("report two triples into three places: ! {status}, left {} {} {}", gives(0, &work), pairs[0], count[0]);
+    let status = haspbarley::area_report(0, 3, triples, &mut work, &mut pairs, &mut []);
+    println!("report them with no place for the count: ! {status}, left {} {}", gives(0, &work), pairs[0]);
+    let status = haspbarley::area_report(0, 3, triples, &mut work, &mut pairs, &mut count);
+    println!("report them: {status}, {} cells, work {}", count[0], gives(0, &work));
+}
+
 /// The polygon of a cell, and the cell that it is read back as.
 fn polygon(resolution: u8, [x, y, z]: [i32; 3]) {
     let (mut text, mut length, mut out) = ([0; 106], [0], [0; 3]);
@@ -580,6 +747,7 @@ fn main() {
     mend();
     checks();
     folds();
+    reports();
     polygon(0, [0, 0, 0]);
     polygon(1, [0, 1, 0]);
     polygon(30, [-1073741823, 1073741823, 0]);
