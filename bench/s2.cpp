@@ -1,4 +1,4 @@
-// S2's leaf cells for bench/main.rs, and its normalizing for bench/folds.rs: loops over S2's own functions, which the compiler calls as it would in C++.
+// S2's leaf cells for bench/main.rs, its normalizing for bench/folds.rs, and its areas for bench/areas.rs: loops over S2's own functions, which the compiler calls as it would in C++.
 // Each answers a sum of what it worked out, so that nothing is left out.
 #include <cstddef>
 #include <cstdint>
@@ -46,4 +46,21 @@ extern "C" size_t s2_normalize() {
     std::vector<S2CellId> ids = prepared;
     S2CellUnion::Normalize(&ids);
     return ids.size();
+}
+
+// Two unions of such cells, and what they have together and in common.
+static S2CellUnion areas[2];
+
+extern "C" size_t s2_area(int which, const uint64_t *positions, size_t count, int level) {
+    s2_prepare(positions, count, level);
+    areas[which] = S2CellUnion(prepared);
+    return areas[which].num_cells();
+}
+
+extern "C" size_t s2_union() {
+    return areas[0].Union(areas[1]).num_cells();
+}
+
+extern "C" size_t s2_intersection() {
+    return areas[0].Intersection(areas[1]).num_cells();
 }
