@@ -18,6 +18,7 @@ use Rattle.demands.proofs.ReadBack.{code}
 use Rattle.demands.proofs.Turned.{code-read}
 use Rattle.demands.proofs.WholeCodes.{whole-codes}
 use Rattle.demands.proofs.Folded.{folding, unfolds}
+use Rattle.demands.proofs.AreaDemands.{areas, reports}
 use Rattle.demands.proofs.Mended.{mending}
 use Rattle.demands.proofs.Claimed.{treated-lists}
 use Rattle.demands.proofs.Ringed.{polygons}
@@ -48,6 +49,8 @@ demands = record {
   folds = folding;
   fold-empty = empty-folds;
   unfolds = unfolds;
+  areas = areas;
+  reports = reports;
   mending = mending;
   treated-lists = treated-lists;
   polygons = polygons;

@@ -5,7 +5,7 @@ use mathlib.Core.Logic.{⊎-elim}
 use mathlib.Core.Bool.{Bool, true, false, not, cond, _||_, _&&_, true≢false}
 use mathlib.Core.Option.{Option, some, none}
 use mathlib.Core.List.{List, [], _∷_}
-use Prim.Native.Nat.{ℕ, zero, suc, _+_, _/_, _^_, _≤_}
+use Prim.Native.Nat.{ℕ, zero, suc, _+_, _/_, _%_, _^_, _≤_}
 use native.Mathlib.Omega.{arith}
 use lib.Dec.{T, leb, ltb, eqb}
 use lib.IntN.{ℤ}
@@ -47,6 +47,9 @@ use Rattle.code.specs.Codes.{allBits, valueOf, codeLength, codeOf, spareOf, loo
 use Rattle.fold.specs.Cells.{cellsIn}
 use Rattle.fold.specs.Folds.{allBelow, ascending, foldCall}
 use Rattle.fold.specs.Unfolds.{shallow, inside, ordered, unfoldCall}
+use Rattle.area.specs.declared.operation.Operation.{Operation}
+use Rattle.area.specs.Areas.{tested, madeCall, sizeCall, containsCall}
+use Rattle.report.specs.Reports.{triplesIn, every, reportCall, tooShort, reportTo}
 use Rattle.mend.specs.Mends.{stepOf, mendCall, mendedTo}
 use Rattle.treated.specs.Treated.{Verdict as TreatedVerdict, checkOf}
 use Rattle.treated.proofs.Claimed.{refused-long}
@@ -252,6 +255,45 @@ unfolds o r pairs slice =
     by-test (not (inside (cellsIn pairs))) Is.Position tt λ l.
     by-test (not (ordered r pairs)) Is.Order tt λ a. answer)
 
+-- ---- areas
+-- two lists that have to be areas, whatever is said of them then
+both-areas : {A : Type 0} {numbers : List ℕ} (a b : List ℕ) {said : Told A} → T (isAmong 1 numbers) → T (isAmong 3 numbers) → T (isAmong 25 numbers) → AnsweredOr numbers said → AnsweredOr numbers (tested a b said)
+unfolding tested numberOf
+both-areas a b resolution position order next =
+    by-test (not (shallow 30 (cellsIn a) && shallow 30 (cellsIn b))) Is.Resolution resolution λ s.
+    by-test (not (inside (cellsIn a) && inside (cellsIn b))) Is.Position position λ l.
+    by-test (not (ordered 30 a && ordered 30 b)) Is.Order order λ o. next
+
+areas : (operation : Operation) (a b slice : List ℕ) → AnsweredOr (1 ∷ 3 ∷ 25 ∷ 10 ∷ []) (valued (λ n. n / 2) (countOf (madeCall operation a b) slice))
+unfolding madeCall
+areas operation a b slice = by-value (λ n. n / 2) (by-room slice tt (both-areas a b tt tt tt answer))
+
+containing : (a : List ℕ) (m p : ℕ) → AnsweredOr (1 ∷ 3 ∷ 25 ∷ []) (containsCall a m p)
+unfolding containsCall
+containing a m p = both-areas (m ∷ p ∷ []) a tt tt tt answer
+
+sizes : (a : List ℕ) (r : ℕ) → AnsweredOr (1 ∷ 3 ∷ 25 ∷ []) (sizeCall a r)
+unfolding sizeCall unfoldCall numberOf
+sizes a r =
+    by-value length
+    (by-test (ltb 30 r) Is.Resolution tt λ k.
+    by-test (not (shallow r (cellsIn a))) Is.Resolution tt λ s.
+    by-test (not (inside (cellsIn a))) Is.Position tt λ l.
+    by-test (not (ordered r a)) Is.Order tt λ o. answer)
+
+reports : (o r : ℕ) (triples : List ℤ) (work slice : List ℕ) → AnsweredOr (1 ∷ 2 ∷ 4 ∷ 5 ∷ 25 ∷ 10 ∷ []) (valued (λ n. n / 2) (countOf (reportTo o r triples work slice) slice))
+unfolding reportTo reportCall numberOf
+reports o r triples work slice =
+    by-value (λ n. n / 2)
+    (by-room slice tt
+    (by-step
+    (by-test (ltb 30 r) Is.Resolution tt λ k.
+    by-test (ltb 5 o) Is.Orientation tt λ h.
+    by-test (not (every goodSum (triplesIn triples))) Is.Sum tt λ g.
+    by-test (not (every (inBounds r) (triplesIn triples))) Is.Bounds tt λ b.
+    by-test (not (eqb (length triples % 3) 0)) Is.Order tt λ c. answer)
+    λ area. by-test (tooShort triples work slice) Is.Room tt λ s. answer))
+
 -- ---- mending
 mending : (list out : List ℕ) → AnsweredOr (10 ∷ []) (mendedTo list out)
 unfolding mendedTo mendCall numberOf
@@ -358,6 +400,10 @@ refusals = record {
   reading = reading;
   folds = folds;
   unfolds = unfolds;
+  areas = areas;
+  containing = containing;
+  sizes = sizes;
+  reports = reports;
   mending = mending;
   mending-step = mending-step;
   checking = checking;

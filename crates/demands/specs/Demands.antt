@@ -41,6 +41,9 @@ use Rattle.fold.specs.Cells.{Cell as WholeCell, Covered, cellsIn}
 use Rattle.fold.specs.Folds.{has, ascending, foldCall}
 use Rattle.fold.specs.Unfolds.{apart, unfoldCall}
 use Rattle.fold.specs.Foldings.{cellsOf, Step, Foldings, Ended, Lone}
+use Rattle.area.specs.declared.operation.Operation.{Operation}
+use Rattle.area.specs.Areas.{madeCall, sizeCall, containsCall}
+use Rattle.report.specs.Reports.{reportTo, workTo}
 use Rattle.mend.specs.Mends.{longestCode, pieceOf, mendOf, changesOf, Sound, Reported, Every, stepOf, mendCall, mendedTo}
 use Rattle.treated.specs.Treated.{checkOf}
 use Rattle.polygon.specs.Polygons.{cellCorners, ringText, polygonText, wktOf, cellOfWkt}
@@ -48,11 +51,13 @@ use Rattle.query.specs.declared.Query.{Query}
 use Rattle.query.specs.Queries.{answerOf}
 use Rattle.query.specs.Lines.{queryOf}
 use Rattle.capi.specs.Calls.{cellCall, CompileCalled}
+use Rattle.capi.specs.AreaCalls.{ReportCalled}
 use Rattle.demands.specs.Lookups.{Lookups}
 use Rattle.demands.specs.Thresholds.{Threshold, Thresholds}
 use Rattle.demands.specs.Dozen.{Dozen, moved as movedTo}
 use Rattle.demands.specs.Parts.{Grammar, Apart, Parts, TwoGrammars}
 use Rattle.demands.specs.TreatedLists.{TreatedLists}
+use Rattle.demands.specs.Areas.{AreaDemands, ReportDemands}
 
 -- ---- calls: every call on every input ends with an answer or a numbered refusal
 abbrev pub isAmong : ℕ → List ℕ → Bool
@@ -112,6 +117,13 @@ pub record Refusals : Type 0 where
   pub folds : (o r : ℕ) (positions slice : List ℕ) → AnsweredOr (1 ∷ 2 ∷ 3 ∷ 25 ∷ 10 ∷ []) (valued (λ n. n / 2) (countOf (foldCall o r positions) slice))
   -- pairs unfolded
   pub unfolds : (o r : ℕ) (pairs slice : List ℕ) → AnsweredOr (1 ∷ 2 ∷ 3 ∷ 25 ∷ 10 ∷ []) (countOf (unfoldCall o r pairs) slice)
+  -- two areas made one
+  pub areas : (operation : Operation) (a b slice : List ℕ) → AnsweredOr (1 ∷ 3 ∷ 25 ∷ 10 ∷ []) (valued (λ n. n / 2) (countOf (madeCall operation a b) slice))
+  -- whether an area covers a cell, and how many cells it covers
+  pub containing : (a : List ℕ) (m p : ℕ) → AnsweredOr (1 ∷ 3 ∷ 25 ∷ []) (containsCall a m p)
+  pub sizes : (a : List ℕ) (r : ℕ) → AnsweredOr (1 ∷ 3 ∷ 25 ∷ []) (sizeCall a r)
+  -- triples reported
+  pub reports : (o r : ℕ) (triples : List ℤ) (work slice : List ℕ) → AnsweredOr (1 ∷ 2 ∷ 4 ∷ 5 ∷ 25 ∷ 10 ∷ []) (valued (λ n. n / 2) (countOf (reportTo o r triples work slice) slice))
   -- a list mended, and one step of that
   pub mending : (list out : List ℕ) → AnsweredOr (10 ∷ []) (mendedTo list out)
   pub mending-step : (rest out : List ℕ) → AnsweredOr (10 ∷ []) (stepOf rest out)
@@ -136,12 +148,20 @@ pub record LentBuffers : Type 1 where
   pub table : (text : List ℕ) (table : List ℤ) (start : ℕ) → ((n : ℕ) → compiledTo text table start ≡ states n → ⊥) → afterCompile text table start ≡ table
   -- that of a fold
   pub folds : (o r : ℕ) (positions slice : List ℕ) (n : ℕ) → valued (λ n. n / 2) (countOf (foldCall o r positions) slice) ≡ refused n → afterCall (foldCall o r positions) slice ≡ slice
+  -- that of an operation on areas
+  pub areas : (operation : Operation) (a b slice : List ℕ) (n : ℕ) → valued (λ n. n / 2) (countOf (madeCall operation a b) slice) ≡ refused n → afterCall (madeCall operation a b) slice ≡ slice
+  -- those of a report, work among them
+  pub reports : (o r : ℕ) (triples : List ℤ) (work slice : List ℕ) (n : ℕ) → valued (λ n. n / 2) (countOf (reportTo o r triples work slice) slice) ≡ refused n
+      → (afterCall (reportTo o r triples work slice) slice ≡ slice) × (afterCall (workTo o r triples work slice) work ≡ work)
   -- the slice of a call from C, where its status is not 0
   pub slice : {A : Type 0} (call : Told (List A)) (slice after : List A) (status : ℕ) → Called call slice status after → (status ≡ 0 → ⊥) → after ≡ slice
   -- both slices of one that has two
   pub slices : {A B : Type 0} (call : Told (List A × List B)) (first x : List A) (second y : List B) (status : ℕ) → CalledBoth call first second status x y → (status ≡ 0 → ⊥) → (x ≡ first) × (y ≡ second)
   -- and both of the one that compiles, whose status has the line at fault too
   pub compiled : (text : List ℕ) (table x : List ℤ) (start : ℕ) (out y : List ℕ) (status : ℕ) → CompileCalled text table start out status x y → (status ≡ 0 → ⊥) → (x ≡ table) × (y ≡ out)
+  -- and all three of a report
+  pub reported : (o r : ℕ) (triples : List ℤ) (work w pairs x count y : List ℕ) (status : ℕ) → ReportCalled o r triples work pairs count status x y w → (status ≡ 0 → ⊥)
+      → (x ≡ pairs) × (y ≡ count) × (w ≡ work)
 
 -- ---- corner sums
 pub record CornerSums : Type 0 where
@@ -421,6 +441,10 @@ pub record Demands : Type 1 where
   pub fold-empty : (o r : ℕ) → o ≤ 5 → r ≤ 30 → foldCall o r [] ≡ told []
   -- for all pairs that are unfolded
   pub unfolds : (o r : ℕ) (pairs positions : List ℕ) → unfoldCall o r pairs ≡ told positions → Unfolding o r pairs positions
+  -- for all areas
+  pub areas : AreaDemands
+  -- for all triples
+  pub reports : ReportDemands
   -- for every list of bytes
   pub mending : (list : List ℕ) → Bytes list → Mending list
   -- for every list
