@@ -15,7 +15,7 @@ use triple::Triple;
 use triple::refusal::Refusal;
 
 // The count of pairs written, or why none was.
-#[derive(Drop)]
+#[derive(Clone, Copy)]
 pub enum AreaAnswer {
     Pairs(usize),
     Refused(Refusal),

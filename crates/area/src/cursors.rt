@@ -11,7 +11,7 @@ use triple::domain::position_count;
 pub(crate) const END: u64 = 1152921504606846977;
 
 // Whether an area covers the positions from a place on, up to which end, and the cursor there.
-#[derive(Drop)]
+#[derive(Clone, Copy)]
 struct Stretch {
     inside: bool,
     end: u64,
@@ -19,7 +19,7 @@ struct Stretch {
 }
 
 // The same of what an operation keeps of two.
-#[derive(Drop)]
+#[derive(Clone, Copy)]
 pub(crate) struct Piece {
     pub inside: bool,
     pub end: u64,

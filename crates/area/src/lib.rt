@@ -7,6 +7,8 @@
 // ends. So along two areas at once an operation keeps all or nothing of each piece between two such
 // places; pieces that are kept and touch are one run; and a run is cut from its front into the largest
 // cells that begin there, which is its fold. No position is looked at by itself.
+#![tactic(auto)]
+
 pub mod combining;
 pub mod cursors;
 pub mod cutting;

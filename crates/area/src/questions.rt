@@ -14,13 +14,13 @@ use triple::domain::position_count;
 use triple::refusal::Refusal;
 
 // The count of cells, or why there is none.
-#[derive(Drop)]
+#[derive(Clone, Copy)]
 pub enum SizeAnswer {
     Cells(u64),
     Refused(Refusal),
 }
 
-#[derive(Drop)]
+#[derive(Clone, Copy)]
 pub enum ContainsAnswer {
     Contained(bool),
     Refused(Refusal),

@@ -5,6 +5,8 @@
 // Every function takes every input. It answers 0 and writes its values at the front of the slice that
 // it is lent, or it answers the number of a refusal and leaves the slice as it was. Too short a slice
 // is refusal 10, tested last. A slice passes as a pointer and then a length.
+#![tactic(auto)]
+
 mod areas;
 mod cells;
 mod children;

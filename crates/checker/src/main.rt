@@ -1,6 +1,8 @@
 // The program: a partner's treated list on standard input, the verdict on standard output: `yes`, the
 // number of the first code at fault and its fault, or `! 29`. What the verdict is, is `treated`'s; this
 // file reads the list and spells the answer.
+#![tactic(auto)]
+
 ghost use Rattle.std.specs.Prelude.{◌-◌, ◌≤◌, length};
 
 use libc::{STDIN_FILENO, STDOUT_FILENO};
@@ -12,7 +14,7 @@ const ENOUGH: usize = 4609;
 
 // What a read gave: how many bytes, and whether there is nothing more to be read, at the end of the input
 // or of the room, or since a read failed.
-#[derive(Drop)]
+#[derive(Clone, Copy)]
 struct Piece {
     count: usize,
     over: bool,

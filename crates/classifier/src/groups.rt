@@ -10,12 +10,12 @@ use crate::edges::{corner_count, edge, is_over, is_under};
 use crate::{Placed, Separator};
 
 // A set of children, by their digits.
-#[derive(Drop)]
+#[derive(Clone, Copy)]
 pub(crate) struct Group {
     pub has: [bool; 4],
 }
 
-#[derive(Drop)]
+#[derive(Clone, Copy)]
 pub(crate) enum FoundLine {
     Line(Separator),
     Nothing,

@@ -2,6 +2,7 @@
 // through its edges, the first of them that splits a set of children cleanly, and what the splits
 // come to: three separators, and a child for each pattern of sides. Whose footprints they are is
 // `tables`'s.
+#![tactic(auto)]
 
 mod edges;
 mod groups;
@@ -9,21 +10,21 @@ pub mod hulls;
 pub mod splits;
 
 // A corner of a footprint, or where one stands. A token's four cells reach no further than 40.
-#[derive(Drop)]
+#[derive(Clone, Copy)]
 pub struct Corner {
     pub a: i8,
     pub b: i8,
 }
 
 // The corners of a convex hull in order: the first `count` of these.
-#[derive(Drop)]
+#[derive(Clone, Copy)]
 pub struct Hull {
     pub corners: [Corner; 24],
     pub count: usize,
 }
 
 // A child's footprint: its hull, turned by half where flipped, at its offset.
-#[derive(Drop)]
+#[derive(Clone, Copy)]
 pub struct Placed {
     pub hull: Hull,
     pub at: Corner,
@@ -31,7 +32,7 @@ pub struct Placed {
 }
 
 // The line where x * a + y * b + c is 0.
-#[derive(Drop)]
+#[derive(Clone, Copy)]
 pub struct Separator {
     pub x: i32,
     pub y: i32,
@@ -40,7 +41,7 @@ pub struct Separator {
 
 // Three separators, those unused zero, and the child for each pattern of sides. `whole` where every
 // set of children was split.
-#[derive(Drop)]
+#[derive(Clone, Copy)]
 pub struct Classifier {
     pub separators: [Separator; 3],
     pub choices: [u8; 8],

@@ -9,7 +9,7 @@ use crate::groups::{FoundLine, Group, first_clean, first_digit, group_on, size};
 use crate::{Classifier, Placed, Separator};
 
 // The lines met so far, each once, those unused zero. `whole` where each set met was split.
-#[derive(Drop)]
+#[derive(Clone, Copy)]
 struct Gathered {
     lines: [Separator; 3],
     count: usize,

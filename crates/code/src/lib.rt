@@ -20,6 +20,8 @@
 // - What is written is read back (proofs/RoundTrip.antt).
 // - VU, WU and VW run the curves of UV, UW and WV backward, and are written no more. An old code of
 //   theirs is read as the same cell's place on the curve run forward, with a mark.
+#![tactic(auto)]
+
 ghost use Rattle.std.specs.Prelude.{◌≡◌, ◌++◌, ◌+◌, ◌-◌, ◌*◌, ◌/◌, ◌^◌, ◌<◌, ◌≤◌, length, get_or, drop};
 ghost use Rattle.triple.specs.Lent.{count_of, after_call};
 ghost use Rattle.code.specs.Codes.{value_of, all_bits, code_length, code_bytes, forward_of, reading_of, code_of, spare_of, loose_of, read_of};
@@ -30,7 +32,7 @@ use triple::orientation::place_from;
 use triple::refusal::Refusal;
 
 // What a code says, the count of bytes that it takes, and whether it is an old one that was turned.
-#[derive(Drop)]
+#[derive(Clone, Copy)]
 pub struct Reading {
     pub orientation: u8,
     pub resolution: u8,
@@ -40,13 +42,13 @@ pub struct Reading {
 }
 
 // The count of bytes written, or why none was.
-#[derive(Drop)]
+#[derive(Clone, Copy)]
 pub enum WriteAnswer {
     Written(usize),
     Refused(Refusal),
 }
 
-#[derive(Drop)]
+#[derive(Clone, Copy)]
 pub enum ReadAnswer {
     Read(Reading),
     Refused(Refusal),

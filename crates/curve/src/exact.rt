@@ -9,7 +9,7 @@ ghost use Rattle.curve.specs.Inside.Parts.{Small, PartOf, parts_reach, rest_of};
 use crate::{LEADING, SIGN, WHOLE};
 
 // digits / 2^places, or that below 0.
-#[derive(Drop)]
+#[derive(Clone, Copy)]
 pub(crate) struct Part {
     negative: bool,
     digits: u64,

@@ -2,6 +2,8 @@
 // whether it had to be. Which half of a unit square that is, the f64's arithmetic tells or exact fractions.
 // What a triple's bounds are is `triple`'s; which position names it is `lsystem`'s. The mapping between
 // positions and cells needs no point, and is all there.
+#![tactic(auto)]
+
 ghost use Rattle.std.specs.Prelude.{◌≡◌, true, ◌&&◌, cond, ◌+◌, ◌-◌, ◌<◌, ◌≤◌, ◌^◌, pos, nat_abs};
 ghost use Rattle.std.specs.Float.{binary64};
 ghost use Rattle.std.specs.Float.Ieee.{add, sub, le, of_int};
@@ -18,7 +20,7 @@ use triple::refusal::Refusal;
 mod exact;
 
 // A point's cell. A point is moved where its own floors and parity are those of no cell in bounds.
-#[derive(Drop)]
+#[derive(Clone, Copy)]
 pub struct PointCell {
     pub triple: Triple,
     pub moved: bool,
@@ -33,7 +35,7 @@ impl PointCell {
     }
 }
 
-#[derive(Drop)]
+#[derive(Clone, Copy)]
 pub enum PointAnswer {
     At(PointCell),
     Refused(Refusal),

@@ -9,7 +9,7 @@ use crate::TableCell;
 use turtle::AB;
 
 // A state, and where its frame starts, in units of its level.
-#[derive(Drop)]
+#[derive(Clone, Copy)]
 pub(crate) struct LevelState {
     pub a: i64,
     pub b: i64,

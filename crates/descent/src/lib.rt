@@ -1,6 +1,8 @@
 // Answers for the descent in a part of a lent table, whoever wrote it: the cell at a place of what the part gives.
 // What a table of a grammar holds, and what following a table gives, is `tables`'s; A5's own curve is
 // `lsystem`'s.
+#![tactic(auto)]
+
 ghost use Rattle.std.specs.Prelude.{◌≡◌, ◌*◌, ◌≤◌, length};
 ghost use Rattle.tables.specs.Descent.{descent_of, descent_in};
 ghost use Rattle.descent.specs.Answers.{said_descent};
@@ -16,13 +18,13 @@ pub mod level;
 pub mod readable;
 
 // A drawn cell, as a table has it.
-#[derive(Drop)]
+#[derive(Clone, Copy)]
 pub struct TableCell {
     pub sum: AB,
     pub flavor: u8,
 }
 
-#[derive(Drop)]
+#[derive(Clone, Copy)]
 pub enum DescentAnswer {
     At(TableCell),
     Refused(Refusal),

@@ -1,6 +1,8 @@
 // The program: a picture of the curve, drawn from its rules. Two arguments, an orientation 0 to 5 and 1 to 6
 // passes; the picture is SVG on standard output. What it draws is `sketch`'s, how a picture is written is
 // `svg`'s; this file has the arguments. Arguments of any other kind are said on standard error, with no picture.
+#![tactic(auto)]
+
 use sketch::DrawAnswer;
 use svg::print;
 use text::number::{ByteWord, byte};

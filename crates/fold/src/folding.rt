@@ -15,7 +15,7 @@ use triple::domain::{DomainAnswer, domain_of, position_count};
 use triple::refusal::Refusal;
 
 // The count of pairs written, or why none was.
-#[derive(Drop)]
+#[derive(Clone, Copy)]
 pub enum FoldAnswer {
     Folded(usize),
     Refused(Refusal),

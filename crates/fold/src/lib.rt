@@ -3,6 +3,8 @@
 //
 // A cell stands in a slice as a pair of numbers, its resolution and its position there. At a resolution
 // r it covers the positions that begin with its digits: those from p * 4^(r - m) on, 4^(r - m) of them.
+#![tactic(auto)]
+
 pub mod folding;
 pub mod pairs;
 pub mod unfolding;

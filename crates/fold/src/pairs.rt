@@ -9,7 +9,7 @@ use triple::domain::position_count;
 
 // What is seen of the pairs up to an entry: whether each has a position of its resolution; whether the
 // others are in curve order and apart; and where the last of these ends.
-#[derive(Drop)]
+#[derive(Clone, Copy)]
 struct Seen {
     bounded: bool,
     sorted: bool,

@@ -13,7 +13,7 @@ use triple::orientation::GREATEST_ORIENTATION;
 use triple::refusal::Refusal;
 
 // The count of positions written, or why none was.
-#[derive(Drop)]
+#[derive(Clone, Copy)]
 pub enum UnfoldAnswer {
     Unfolded(usize),
     Refused(Refusal),

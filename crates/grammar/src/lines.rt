@@ -9,7 +9,7 @@ use crate::word::{Book, least, upper, word_at};
 
 // Where the parts of a text's lines stand in it, line by line, for the first `count` lines: the
 // motif's letter, the place of the rule's first byte and the rule's length, the same of the draw.
-#[derive(Drop)]
+#[derive(Clone, Copy)]
 pub struct Lines {
     pub name: [u8; 8],
     pub rule: [usize; 8],

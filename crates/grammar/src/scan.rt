@@ -10,21 +10,21 @@ use crate::word::word_at;
 
 // The lines of a text before the first that is at fault by 12, and the number of that one; all lines
 // and 0 where there is none. Behind the last line the arrays have 0.
-#[derive(Drop)]
+#[derive(Clone, Copy)]
 pub struct Scan {
     pub lines: Lines,
     pub fault: usize,
 }
 
 // The lines of the rows so far, and where the next row begins.
-#[derive(Drop)]
+#[derive(Clone, Copy)]
 struct Scanner {
     lines: Lines,
     at: usize,
 }
 
 // The first row of a text: a line, by the lengths of its rule and of the whole of it.
-#[derive(Drop)]
+#[derive(Clone, Copy)]
 enum Shape {
     Line(usize, usize),
     Other,

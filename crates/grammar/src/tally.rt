@@ -8,7 +8,7 @@ use crate::lines::{Lines, is_listed};
 use crate::word::mirrored;
 
 // A byte of a word: a turn, a letter that may stand there, one that may not, or neither.
-#[derive(Drop)]
+#[derive(Clone, Copy)]
 enum Kind {
     Left,
     Right,
@@ -19,7 +19,7 @@ enum Kind {
 
 // What the bytes of a word come to: how many letters, the heading at the end, whether each letter
 // is met at heading 0 or 3, and whether each byte may stand there.
-#[derive(Drop)]
+#[derive(Clone, Copy)]
 pub(crate) struct Tally {
     pub letters: usize,
     pub heading: u8,

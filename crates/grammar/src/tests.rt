@@ -14,21 +14,21 @@ use crate::word::{least, word_at};
 use triple::refusal::Refusal;
 
 // A refusal from 12 to 19, with the number from 1 of the line at fault, or 0 of the empty text.
-#[derive(Drop)]
+#[derive(Clone, Copy)]
 pub enum TextAnswer {
     Fine,
     Fault(Refusal, usize),
 }
 
 // The lines of a text as its scan keeps them, and what its tests say.
-#[derive(Drop)]
+#[derive(Clone, Copy)]
 pub struct Reading {
     pub lines: Lines,
     pub answer: TextAnswer,
 }
 
 // The tests of a line, by the refusal that each gives.
-#[derive(Drop)]
+#[derive(Clone, Copy)]
 enum Test {
     Motif,
     Rule,

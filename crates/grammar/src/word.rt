@@ -11,7 +11,7 @@ ghost use Rattle.grammar.specs.Inside.Replacements.{part_word, PartWithin, found
 use triple::refusal::Refusal;
 
 // How many bytes were written at the buffer's front. A refused call leaves the buffer as it was.
-#[derive(Drop)]
+#[derive(Clone, Copy)]
 pub enum WordAnswer {
     Written(usize),
     Refused(Refusal),
@@ -32,7 +32,7 @@ impl WordAnswer {
 // Where each motif's word stands in a slice of bytes: row by row, for the first `count` rows, the
 // motif's letter, the place of its word's first byte and the word's length. A word ends where the
 // slice does, and of two rows with one letter the first counts.
-#[derive(Drop)]
+#[derive(Clone, Copy)]
 pub struct Book {
     pub letters: [u8; 8],
     pub from: [usize; 8],
@@ -41,13 +41,13 @@ pub struct Book {
 }
 
 // The bytes of a slice from `lo` up to `hi`.
-#[derive(Drop)]
+#[derive(Clone, Copy)]
 struct Part {
     lo: usize,
     hi: usize,
 }
 
-#[derive(Drop)]
+#[derive(Clone, Copy)]
 enum FoundWord {
     At(Part),
     Nothing,
@@ -55,7 +55,7 @@ enum FoundWord {
 
 // What stands in a byte's place after a pass: a word of the book as it is, one reversed, or the
 // byte itself.
-#[derive(Drop)]
+#[derive(Clone, Copy)]
 enum Replacement {
     Along(Part),
     Back(Part),

@@ -2,6 +2,8 @@
 // what is answered gathered and written in large pieces, at the latest before the next read, which may
 // wait. A read or a write that fails is said on standard error and ends the exchange; what it cut short
 // is no line. What a line asks and what it is answered is the program's.
+#![tactic(auto)]
+
 ghost use Rattle.std.specs.Prelude.{◌≡◌, ◌-◌, ◌≤◌, length};
 ghost use Rattle.lines.specs.Exchanges.{is_whole, is_over, left_of, fresh, Within, Stopped};
 ghost use Rattle.lines.specs.Inside.Steps.{amid, ended, at_end, after_read, Sound};
@@ -9,7 +11,7 @@ ghost use Rattle.lines.specs.Inside.Steps.{amid, ended, at_end, after_read, Soun
 use libc::{STDIN_FILENO, STDOUT_FILENO};
 
 // Where a step of an exchange stops.
-#[derive(Drop)]
+#[derive(Clone, Copy)]
 pub enum Stop {
     // At the end of the piece that was read last.
     Piece,
@@ -26,7 +28,7 @@ pub enum Stop {
 // How far an exchange of lines is: the next byte of the piece that was read last, and that piece's end;
 // how many bytes of a line are kept, and how many of the output are gathered; and where the last step
 // stopped. Of a line that is longer than what is lent for it, the rest is passed over.
-#[derive(Drop)]
+#[derive(Clone, Copy)]
 pub struct Exchange {
     pub at: usize,
     pub end: usize,

@@ -12,13 +12,13 @@ use triple::orientation::{place_from, recipe_of};
 use triple::refusal::Refusal;
 
 // A cell as a position names it.
-#[derive(Drop)]
+#[derive(Clone, Copy)]
 pub struct Cell {
     pub triple: Triple,
     pub flavor: u8,
 }
 
-#[derive(Drop)]
+#[derive(Clone, Copy)]
 pub enum CellAnswer {
     Cell(Cell),
     Refused(Refusal),

@@ -14,7 +14,7 @@ use triple::orientation::{place_from, recipe_of};
 use triple::refusal::Refusal;
 use triple::{FlavorAnswer, Triple};
 
-#[derive(Drop)]
+#[derive(Clone, Copy)]
 pub enum PositionAnswer {
     At(Located),
     Refused(Refusal),

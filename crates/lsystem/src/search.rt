@@ -8,7 +8,7 @@ ghost use Rattle.lsystem.specs.Inside.Rooms.{SearchRoom};
 use strides::{Search, search_end, search_step};
 
 // A cell by its spot in the footprint of an axiom.
-#[derive(Drop)]
+#[derive(Clone, Copy)]
 pub(crate) struct Spot {
     pub x: u64,
     pub y: u64,

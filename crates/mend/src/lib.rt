@@ -1,6 +1,8 @@
 // Answers for mending a list of codes that stand one after another: sound codes are copied, spare bits
 // are cleared, old codes are turned forward, and a byte where no code can be read is dropped. What a code
 // says is `code`'s; how changes are printed is the program's.
+#![tactic(auto)]
+
 ghost use Rattle.std.specs.Prelude.{◌≡◌, ◌++◌, ◌<◌, ◌≤◌, length, get_or, take, drop};
 ghost use Rattle.triple.specs.Refusals.{told};
 ghost use Rattle.triple.specs.Lent.{after_call};
@@ -15,7 +17,7 @@ use code::{ReadAnswer, Reading};
 use triple::refusal::Refusal;
 
 // What was done to the code, or the byte, at the front of a rest.
-#[derive(Drop)]
+#[derive(Clone, Copy)]
 pub enum Change {
     Kept,
     Spare,
@@ -25,7 +27,7 @@ pub enum Change {
 }
 
 // How many bytes a step took from the front of a rest, how many it wrote for them, and the change.
-#[derive(Drop)]
+#[derive(Clone, Copy)]
 pub struct Stepped {
     pub taken: usize,
     pub written: usize,
@@ -33,19 +35,19 @@ pub struct Stepped {
 }
 
 // How many bytes were written, and how many changes there are to tell: of a code with both faults, two.
-#[derive(Drop)]
+#[derive(Clone, Copy)]
 pub struct Tally {
     pub written: usize,
     pub changes: usize,
 }
 
-#[derive(Drop)]
+#[derive(Clone, Copy)]
 pub enum StepAnswer {
     Taken(Stepped),
     Refused(Refusal),
 }
 
-#[derive(Drop)]
+#[derive(Clone, Copy)]
 pub enum MendAnswer {
     Mended(Tally),
     Refused(Refusal),
@@ -53,7 +55,7 @@ pub enum MendAnswer {
 
 // What to do with the front of a rest: copy a code of so many bytes, write anew what a code says, or drop
 // a byte.
-#[derive(Drop)]
+#[derive(Clone, Copy)]
 enum Plan {
     Copy(usize),
     Anew(Reading, Change),

@@ -6,7 +6,7 @@ use crate::changes::written;
 use crate::walk::{Walk, walk_piece};
 use std::num::wrapping_add_u64;
 
-#[derive(Drop)]
+#[derive(Clone, Copy)]
 pub enum Stop {
     // There may be more to be read.
     Piece,
@@ -18,7 +18,7 @@ pub enum Stop {
 
 // How many bytes that are not yet taken stand at the front of the piece, the offset of the first of them in the
 // list, how many bytes of lines are gathered, and where the last step stopped.
-#[derive(Drop)]
+#[derive(Clone, Copy)]
 pub struct Course {
     pub kept: usize,
     pub offset: u64,

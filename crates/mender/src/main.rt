@@ -1,6 +1,8 @@
 // The program: an old list of codes mended into a new file. Two arguments, the old list and the file to be made, which
 // must not be there. How a list is mended is `course`'s; this file has the arguments and the files. Whatever fails is
 // said on standard error, and then there is no new file.
+#![tactic(auto)]
+
 use course::Course;
 
 mod changes;

@@ -48,7 +48,7 @@ fn step(rest: &[u8], out: &mut [u8]) -> Stepped
 }
 
 // How much of a piece was taken, how much was written for it, and how many bytes of lines are gathered.
-#[derive(Drop)]
+#[derive(Clone, Copy)]
 pub struct Walk {
     pub taken: usize,
     pub written: usize,

@@ -6,7 +6,7 @@ use crate::words::{leaf_of, step_of};
 use turtle::AB;
 
 // A state, and where its frame starts, in units of its level.
-#[derive(Drop)]
+#[derive(Clone, Copy)]
 pub(crate) struct Place {
     pub a: i64,
     pub b: i64,
@@ -14,7 +14,7 @@ pub(crate) struct Place {
 }
 
 // A cell as it is drawn: its corner sum and its flavor.
-#[derive(Drop)]
+#[derive(Clone, Copy)]
 pub(crate) struct Drawn {
     pub sum: AB,
     pub flavor: u8,

@@ -2,6 +2,8 @@
 // walk's orientation and resolution, so a step asks for a digit alone. The positions of its frame
 // are f64: they are tested whole from their bits, worked on as i64 and returned by exact casts. Which
 // position names a cell is `lsystem`'s; the table that a step reads is `a5`'s.
+#![tactic(auto)]
+
 ghost use Rattle.std.specs.Prelude.{◌≡◌, ◌^◌, ◌<◌, ◌≤◌, true, ◌==◌, unsigned_abs};
 ghost use Rattle.triple.specs.Orientations.{moved_by};
 ghost use Rattle.turtle.specs.Plane.{ab};
@@ -25,7 +27,7 @@ pub mod words;
 // A piece of the curve below a cell, from which the cell's children are read: the four fields of the
 // Rust's node. Good ones have a motif of at most 13, a flip of 0 or 1, and positions that are whole
 // multiples of 4, at most 2^36 in size, and not negative zero.
-#[derive(Drop)]
+#[derive(Clone, Copy)]
 pub struct Frame {
     pub motif: u64,
     pub flip: u8,
@@ -36,7 +38,7 @@ pub struct Frame {
 // A frame and the walk that came to it: its orientation, and the resolution of the cell above it. So a
 // step cannot be taken in another orientation or to another resolution than the walk's own. Good nodes
 // have an orientation of at most 5, a resolution of at most 30 and a good frame.
-#[derive(Drop)]
+#[derive(Clone, Copy)]
 pub struct Node {
     pub orientation: u8,
     pub resolution: u8,
@@ -44,32 +46,32 @@ pub struct Node {
 }
 
 // What a child step answers: the child's cell, and the node below it.
-#[derive(Drop)]
+#[derive(Clone, Copy)]
 pub struct ChildStep {
     pub cell: Cell,
     pub node: Node,
 }
 
 // What a lookup of a cell's node answers: the cell's position, and the node below it.
-#[derive(Drop)]
+#[derive(Clone, Copy)]
 pub struct Reached {
     pub position: Position,
     pub node: Node,
 }
 
-#[derive(Drop)]
+#[derive(Clone, Copy)]
 pub enum NodeAnswer {
     Node(Node),
     Refused(Refusal),
 }
 
-#[derive(Drop)]
+#[derive(Clone, Copy)]
 pub enum ReachedAnswer {
     Reached(Reached),
     Refused(Refusal),
 }
 
-#[derive(Drop)]
+#[derive(Clone, Copy)]
 pub enum ChildAnswer {
     Child(ChildStep),
     Refused(Refusal),
@@ -254,7 +256,7 @@ pub fn axiom_node(orientation: u8) -> NodeAnswer
 }
 
 // Three coordinates that may not fit an i32.
-#[derive(Drop)]
+#[derive(Clone, Copy)]
 struct Wide {
     x: i64,
     y: i64,
@@ -279,7 +281,7 @@ fn moved_wide(moves: bool, resolution: u8, t: Triple) -> Wide
     Wide { x, y, z }
 }
 
-#[derive(Drop)]
+#[derive(Clone, Copy)]
 enum Bounded {
     In(Cell),
     Out,

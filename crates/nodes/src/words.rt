@@ -79,7 +79,7 @@ fn leaf_word(state: u64) -> u64
 }
 
 // A child's state, and where it starts in its parent's frame.
-#[derive(Drop)]
+#[derive(Clone, Copy)]
 pub(crate) struct Step {
     pub state: u64,
     pub a: i64,
@@ -87,7 +87,7 @@ pub(crate) struct Step {
 }
 
 // A cell of the last level: its corner sum in its state's frame, and its flavor.
-#[derive(Drop)]
+#[derive(Clone, Copy)]
 pub(crate) struct Leaf {
     pub a: i64,
     pub b: i64,

@@ -12,6 +12,8 @@
 //   bracket: so a cell has one spelling.
 // - At the resolutions that there are a text takes at most 106 bytes.
 // - What is written is read back, and what is read is what would be written (proofs/ReadBack.antt).
+#![tactic(auto)]
+
 ghost use Rattle.std.specs.Prelude.{◌≡◌};
 ghost use Rattle.triple.specs.Lent.{count_of, after_call};
 ghost use Rattle.polygon.specs.Polygons.{wkt_of, cell_of_wkt};
@@ -28,13 +30,13 @@ mod reading;
 mod spelling;
 
 // The count of bytes written, or why none was.
-#[derive(Drop)]
+#[derive(Clone, Copy)]
 pub enum TextAnswer {
     Written(usize),
     Refused(Refusal),
 }
 
-#[derive(Drop)]
+#[derive(Clone, Copy)]
 pub enum PolygonAnswer {
     Cell(Triple),
     Refused(Refusal),

@@ -12,14 +12,14 @@ use triple::Triple;
 use turtle::AB;
 
 // A corner and the place after it.
-#[derive(Drop)]
+#[derive(Clone, Copy)]
 pub(crate) enum Corner {
     At(AB, usize),
     Unread,
 }
 
 // `None`: the text is no cell's polygon.
-#[derive(Drop)]
+#[derive(Clone, Copy)]
 pub(crate) enum Spelled {
     Cell(Triple),
     None,

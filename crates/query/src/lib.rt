@@ -1,6 +1,8 @@
 // Answers for queries: a line of bytes read into one, what it finds, and that printed as a line.
 // What is found is `lsystem`'s and `curve`'s, words and numbers are `text`'s; the lines of an input and
 // the output are the program `wedge`'s.
+#![tactic(auto)]
+
 use curve::PointCell;
 use lsystem::Position;
 use lsystem::cell::Cell;
@@ -12,7 +14,7 @@ pub mod line;
 pub mod print;
 
 // Each names an orientation and a resolution, and then a position, a triple or a point of two f64.
-#[derive(Drop)]
+#[derive(Clone, Copy)]
 pub enum Query {
     Position(u8, u8, u64),
     Cell(u8, u8, Triple),
@@ -20,20 +22,20 @@ pub enum Query {
 }
 
 // A position's cell; a triple's position; a point's cell and its position.
-#[derive(Drop)]
+#[derive(Clone, Copy)]
 pub enum Found {
     Cell(Cell),
     Position(Position),
     Point(PointCell, Position),
 }
 
-#[derive(Drop)]
+#[derive(Clone, Copy)]
 pub enum QueryAnswer {
     Query(Query),
     Refused(Refusal),
 }
 
-#[derive(Drop)]
+#[derive(Clone, Copy)]
 pub enum FoundAnswer {
     Found(Found),
     Refused(Refusal),

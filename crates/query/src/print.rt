@@ -16,7 +16,7 @@ use text::put::{put, put_bytes, put_integer, put_natural, put_next_integer, put_
 use triple::Triple;
 use triple::refusal::Refusal;
 
-#[derive(Drop)]
+#[derive(Clone, Copy)]
 pub enum PrintAnswer {
     Printed(usize),
     Refused(Refusal),

@@ -1,6 +1,8 @@
 // Answers for A5's curve drawn from its rules alone: the cells of 1 to 6 passes, in order, into a lent
 // buffer, in any of the six orientations. It reads no table, and so it is a second opinion on those that
 // do: what it lists is what a descent over A5's compiled table gives, place by place (proofs/SecondOpinion.antt).
+#![tactic(auto)]
+
 ghost use Rattle.std.specs.Prelude.{◌≡◌, ◌*◌, ◌^◌, ◌≤◌, length};
 ghost use Rattle.triple.specs.Lent.{count_of, after_call};
 ghost use Rattle.sketch.specs.Answers.{said_draw};
@@ -23,7 +25,7 @@ mod word;
 pub const GREATEST_PASSES: u8 = 6;
 
 // How many entries were written at the buffer's front. A refused call leaves the buffer as it was.
-#[derive(Drop)]
+#[derive(Clone, Copy)]
 pub enum DrawAnswer {
     Written(usize),
     Refused(Refusal),

@@ -15,7 +15,7 @@ use turtle::walk::{DrawnCell, Stepped, Turtle};
 
 // Of so many cells the first `drawn` are in the buffer: from its front up, or from the last cell's
 // place down.
-#[derive(Drop)]
+#[derive(Clone, Copy)]
 pub(crate) struct Pen {
     pub turtle: Turtle,
     pub drawn: u64,

@@ -6,7 +6,7 @@ ghost use Rattle.sketch.specs.Inside.Marks.{word_in, Whole, rule_word, draw_word
 use grammar::word::mirrored;
 
 // The first `len` of ten bytes. No motif's word is empty.
-#[derive(Drop)]
+#[derive(Clone, Copy)]
 pub(crate) struct Word {
     pub bytes: [u8; 10],
     pub len: usize,

@@ -2,6 +2,8 @@
 // leaf's lead to, which tile and digits three bits of a spot lead to, and the last digits of all. Each is one
 // load from a table. The walks and searches that go by these looks are `lsystem`'s; what the tables hold is read
 // off `a5`'s table, and that a `match` is such a table is `arms`'s.
+#![tactic(auto)]
+
 ghost use Rattle.std.specs.Prelude.{◌≡◌};
 ghost use Rattle.strides.specs.Walks.{walk_step, walk_end};
 ghost use Rattle.strides.specs.Searches.{search_step, search_end};
@@ -14,7 +16,7 @@ mod walk_steps;
 // Where a walk is: the first entry of a state's row, and the beginning of the state's footprint, in units of its
 // own scale, as seen from where the walk began. A spot's third number is not carried: the parity of its cell and
 // the first two say it.
-#[derive(Drop)]
+#[derive(Clone, Copy)]
 pub struct Walk {
     pub x: u64,
     pub y: u64,
@@ -23,7 +25,7 @@ pub struct Walk {
 
 // Where a walk ends: the first two numbers of a cell's spot, and its flavor. They stand apart, so that they are
 // worked out apart: side by side the compiler makes one vector of them, which is slower.
-#[derive(Drop)]
+#[derive(Clone, Copy)]
 pub struct End {
     pub x: u64,
     pub flavor: u8,
@@ -31,7 +33,7 @@ pub struct End {
 }
 
 // Where a search is: the first entry of a tile's row, and the digits on the way there.
-#[derive(Drop)]
+#[derive(Clone, Copy)]
 pub struct Search {
     pub row: u64,
     pub s: u64,

@@ -12,7 +12,7 @@ use crate::{Child, Source};
 use grammar::lines::is_listed;
 
 // The first `count` children of a rule, and the heading behind them.
-#[derive(Drop)]
+#[derive(Clone, Copy)]
 struct RuleChildren {
     children: [Child; 4],
     count: usize,

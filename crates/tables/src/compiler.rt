@@ -19,7 +19,7 @@ use triple::refusal::Refusal;
 
 // The number of states; or a refusal from 12 to 20 with the number of the line at fault; or that the
 // states' part is past the table.
-#[derive(Drop)]
+#[derive(Clone, Copy)]
 pub enum CompileAnswer {
     States(usize),
     Fault(Refusal, usize),

@@ -20,7 +20,7 @@ use turtle::letter::Flavor;
 use turtle::walk::{Corners, DrawnCell, Hosted, Stepped, Turtle};
 
 // The turtle, and the first `count` cells that it drew.
-#[derive(Drop)]
+#[derive(Clone, Copy)]
 struct CellWalk {
     turtle: Turtle,
     corners: [Corner; 12],

@@ -2,6 +2,8 @@
 // each state's 41 numbers), and what following a table gives, whoever wrote it. The grammar's text and
 // its drawing are `grammar`'s, telling children apart is `classifier`'s; the operations on A5's own
 // table are `lsystem`'s.
+#![tactic(auto)]
+
 use classifier::{Classifier, Corner};
 use grammar::lines::Lines;
 
@@ -15,14 +17,14 @@ mod states;
 mod tokens;
 
 // A child of a token: met at heading 0, or flipped: at heading 3.
-#[derive(Drop)]
+#[derive(Clone, Copy)]
 pub(crate) struct Child {
     pub token: usize,
     pub flip: bool,
 }
 
 // A text's lines and its tokens: the motifs in letter order, then their lowercase forms.
-#[derive(Drop)]
+#[derive(Clone, Copy)]
 pub(crate) struct Source {
     pub lines: Lines,
     pub bytes: [u8; 52],
@@ -31,7 +33,7 @@ pub(crate) struct Source {
 
 // What a token draws with one pass: the corners of its four cells, their corner sums and flavors, and
 // where the walk ends.
-#[derive(Drop)]
+#[derive(Clone, Copy)]
 pub(crate) struct Drawn {
     pub corners: [Corner; 12],
     pub sums: [Corner; 4],
@@ -41,7 +43,7 @@ pub(crate) struct Drawn {
 
 // What a state's 41 numbers are read from: its children, where they start, its cells' corner sums and
 // flavors, and what tells its children apart.
-#[derive(Drop)]
+#[derive(Clone, Copy)]
 pub(crate) struct StateParts {
     pub children: [Child; 4],
     pub flip: bool,

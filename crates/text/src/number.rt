@@ -10,31 +10,31 @@ ghost use Rattle.text.specs.Inside.Reading.{digits_up_to};
 ghost use Rattle.text.specs.Answers.{said_byte, said_natural, said_integer, said_wide, said_float};
 
 // What reading a word as a number gives; `Unread` where it is none.
-#[derive(Drop)]
+#[derive(Clone, Copy)]
 pub enum ByteWord {
     Byte(u8),
     Unread,
 }
 
-#[derive(Drop)]
+#[derive(Clone, Copy)]
 pub enum NaturalWord {
     Natural(u64),
     Unread,
 }
 
-#[derive(Drop)]
+#[derive(Clone, Copy)]
 pub enum IntegerWord {
     Integer(i32),
     Unread,
 }
 
-#[derive(Drop)]
+#[derive(Clone, Copy)]
 pub enum WideWord {
     Wide(i64),
     Unread,
 }
 
-#[derive(Drop)]
+#[derive(Clone, Copy)]
 pub enum FloatWord {
     Float(f64),
     Unread,

@@ -6,7 +6,7 @@ ghost use Rattle.text.specs.Answers.{said_placed};
 use crate::number::{WideWord, digit, wide_integer};
 
 // The number and the place after it; `Unread` where none stands there.
-#[derive(Drop)]
+#[derive(Clone, Copy)]
 pub enum Placed {
     Decimal(i64, usize),
     Unread,

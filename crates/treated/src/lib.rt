@@ -1,6 +1,8 @@
 // Answers for checking a partner's treated list: up to 512 codes at mixed resolutions, one after another.
 // It is good where every code is sound, unmarked and of the first code's orientation, and no cell equals
 // or contains another; else the first code that breaks this is named. What a code says is `code`'s.
+#![tactic(auto)]
+
 ghost use Rattle.std.specs.Prelude.{◌≡◌, ◌-◌, ◌*◌, ◌^◌, ◌<◌, ◌≤◌, length};
 ghost use Rattle.code.specs.Codes.{read_of};
 ghost use Rattle.treated.specs.Treated.{check_of};
@@ -11,7 +13,7 @@ use code::{ReadAnswer, Reading};
 use triple::refusal::Refusal;
 
 // Why a code is not good, taken together with those before it; the earliest of these where several hold.
-#[derive(Drop)]
+#[derive(Clone, Copy)]
 pub enum Fault {
     // It does not read.
     Unsound,
@@ -24,14 +26,14 @@ pub enum Fault {
 }
 
 // A code that is good, by what it says, or what is at fault with it.
-#[derive(Drop)]
+#[derive(Clone, Copy)]
 pub enum Judged {
     Right(Reading),
     Wrong(Fault),
 }
 
 // How many codes a good list has; or the first code at fault, by its number from 0.
-#[derive(Drop)]
+#[derive(Clone, Copy)]
 pub enum CheckAnswer {
     Good(usize),
     Faulty(Fault, usize),

@@ -8,7 +8,7 @@ use crate::Triple;
 use crate::orientation::GREATEST_ORIENTATION;
 use crate::refusal::Refusal;
 
-#[derive(Drop)]
+#[derive(Clone, Copy)]
 pub enum DomainAnswer {
     In,
     Refused(Refusal),

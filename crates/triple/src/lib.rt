@@ -2,6 +2,8 @@
 // the domain of resolutions and orientations, and how each orientation's curve is drawn; and for the
 // refusals' numbers, which every crate above uses. Where a triple's cell lies on the plane is
 // `turtle`'s; which position names it is `lsystem`'s.
+#![tactic(auto)]
+
 ghost use Rattle.std.specs.Prelude.{◌≡◌, ◌&&◌, ◌≤◌, leb};
 ghost use Rattle.triple.specs.Domain.{greatest_resolution};
 ghost use Rattle.triple.specs.Triples.{sum_of, max_row, is_in_bounds, parity_of, color_of, flavor_of};
@@ -16,20 +18,20 @@ pub mod refusal;
 
 // A cell of the triangular lattice. Neighbors differ by 1 in one coordinate. Any three i32 may
 // stand here: whether they name a cell, and at which resolutions, is what the methods tell.
-#[derive(Drop)]
+#[derive(Clone, Copy)]
 pub struct Triple {
     pub x: i32,
     pub y: i32,
     pub z: i32,
 }
 
-#[derive(Drop)]
+#[derive(Clone, Copy)]
 pub enum ParityAnswer {
     Parity(u8),
     Refused(Refusal),
 }
 
-#[derive(Drop)]
+#[derive(Clone, Copy)]
 pub enum FlavorAnswer {
     Flavor(u8),
     Refused(Refusal),

@@ -7,7 +7,7 @@ pub const GREATEST_ORIENTATION: u8 = 5;
 
 // How an orientation's curve is drawn: its axiom's motif (A 0, B 1, C 2), whether it is walked from its
 // other end, and whether its triples are moved.
-#[derive(Drop)]
+#[derive(Clone, Copy)]
 pub struct Recipe {
     pub motif: u64,
     pub backward: bool,

@@ -9,13 +9,13 @@ use crate::AB;
 use triple::Triple;
 use triple::refusal::Refusal;
 
-#[derive(Drop)]
+#[derive(Clone, Copy)]
 pub enum CornerAnswer {
     Sum(AB),
     Refused(Refusal),
 }
 
-#[derive(Drop)]
+#[derive(Clone, Copy)]
 pub enum TripleAnswer {
     At(Triple),
     Refused(Refusal),
@@ -48,7 +48,7 @@ fn sum_of_corners(t: Triple) -> AB
 }
 
 // Three coordinates that may not fit an i32.
-#[derive(Drop)]
+#[derive(Clone, Copy)]
 struct Wide {
     x: i64,
     y: i64,

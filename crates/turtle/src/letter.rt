@@ -7,7 +7,7 @@ use crate::AB;
 
 // What a letter draws at heading 0: its step, the three corners of the cell that it hosts, and the
 // cell's flavor.
-#[derive(Drop)]
+#[derive(Clone, Copy)]
 pub struct Stroke {
     pub step: AB,
     pub p: AB,
@@ -17,13 +17,13 @@ pub struct Stroke {
 }
 
 // U and u host cells that are no pentagon's, and have none.
-#[derive(Drop)]
+#[derive(Clone, Copy)]
 pub enum Flavor {
     Of(u8),
     None,
 }
 
-#[derive(Drop)]
+#[derive(Clone, Copy)]
 pub enum Letter {
     Draws(Stroke),
     NoDraw,

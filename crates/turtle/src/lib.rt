@@ -1,6 +1,8 @@
 // Answers for the turtle on the lattice of corner pairs: the ten draw letters, rotation, a walk's
 // single step, and the corner sum by which a cell of the plane and a triple name each other.
 // Which letters are drawn, and in which order, is `grammar`'s.
+#![tactic(auto)]
+
 ghost use Rattle.std.specs.Prelude.{◌≡◌};
 ghost use Rattle.turtle.specs.Plane.{far};
 
@@ -9,7 +11,7 @@ pub mod letter;
 pub mod walk;
 
 // A point of the lattice with the basis u = (√3/4, 1/4), v = (0, 1/2), or a sum of three such.
-#[derive(Drop)]
+#[derive(Clone, Copy)]
 pub struct AB {
     pub a: i64,
     pub b: i64,

@@ -7,20 +7,20 @@ ghost use Rattle.turtle.specs.Inside.Sizes.{Near, Roomy, Short, SmallStroke};
 use crate::AB;
 use crate::letter::{Flavor, Letter, Stroke, stroke_of};
 
-#[derive(Drop)]
+#[derive(Clone, Copy)]
 pub struct Turtle {
     pub at: AB,
     pub heading: u8,
 }
 
 // A drawn cell: its corner sum and flavor.
-#[derive(Drop)]
+#[derive(Clone, Copy)]
 pub struct DrawnCell {
     pub sum: AB,
     pub flavor: Flavor,
 }
 
-#[derive(Drop)]
+#[derive(Clone, Copy)]
 pub struct Corners {
     pub p: AB,
     pub q: AB,
@@ -28,7 +28,7 @@ pub struct Corners {
 }
 
 // `Lost`: the turtle is beyond `AB::LIMIT`, far from every cell that is in bounds.
-#[derive(Drop)]
+#[derive(Clone, Copy)]
 pub enum Stepped {
     Drew(DrawnCell, Turtle),
     Turned(Turtle),
@@ -36,7 +36,7 @@ pub enum Stepped {
     Lost,
 }
 
-#[derive(Drop)]
+#[derive(Clone, Copy)]
 pub enum Hosted {
     Corners(Corners),
     NoDraw,

@@ -17,6 +17,8 @@
 // A node's a and b are the 16 hex digits of an f64's bits. A text has `_` for a space and `/` for
 // LF, and its refusals are answered with the line at fault. What is answered is the crates'; how the
 // input is cut and the output gathered, and what is said where a read or a write fails, is `lines`'s.
+#![tactic(auto)]
+
 ghost use Rattle.std.specs.Prelude.{◌+◌, ◌≤◌, length};
 
 use lines::Exchange;

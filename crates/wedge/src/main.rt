@@ -1,6 +1,8 @@
 // The program: lines in, lines out. A query on each line of standard input, its answer on a line of
 // standard output, and nothing else. What a line asks and what is answered is `query`'s; how the input
 // is cut and the output gathered, and what is said where a read or a write fails, is `lines`'s.
+#![tactic(auto)]
+
 ghost use Rattle.std.specs.Prelude.{◌+◌, ◌≤◌, length};
 
 use lines::Exchange;
