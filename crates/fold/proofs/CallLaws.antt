@@ -3,7 +3,7 @@ use mathlib.Core.Bool.{true, not}
 use mathlib.Core.Logic.{◌↔◌}
 use mathlib.Core.Path.{◌≡◌, refl, sym, ap, subst, ◌∙◌}
 use mathlib.Core.List.{List, [], ◌∷◌}
-use Prim.Native.Nat.{ℕ, ◌+◌, ◌-◌, ◌%◌, ◌^◌, ◌≤◌}
+use Prim.Native.Nat.{ℕ, suc, ◌+◌, ◌*◌, ◌-◌, ◌%◌, ◌^◌, ◌≤◌}
 use native.Mathlib.Omega.{arith}
 use lib.Dec.{ltb, eqb}
 use lib.ListN.{length}
@@ -31,7 +31,7 @@ same_told e = cc
 
 coarse_laid : (r place : ℕ) (cells : List Cell) → Laid r place cells → Coarse r cells
 coarse_laid r place [] l = tt
-coarse_laid r place (cell m p ∷ cells) l = (l.0, coarse_laid r _ cells l.3)
+coarse_laid r place (cell m p ∷ cells) l = (l.0, coarse_laid r (suc p * 4 ^ (r - m)) cells l.3)
 
 -- ---- folding
 -- a list that was folded

@@ -35,17 +35,17 @@ tested_laid r place (cell m p ∷ cells) a b c =
 pub laid_shallow : (r place : ℕ) (cells : List Cell) → Laid r place cells → shallow r cells ≡ true
 unfolding shallow
 laid_shallow r place [] l = refl
-laid_shallow r place (cell m p ∷ cells) l = rw (le-leb m r l.0) (laid_shallow r _ cells l.3)
+laid_shallow r place (cell m p ∷ cells) l = rw (le-leb m r l.0) (laid_shallow r (suc p * 4 ^ (r - m)) cells l.3)
 
 pub laid_inside : (r place : ℕ) (cells : List Cell) → Laid r place cells → inside cells ≡ true
 unfolding inside
 laid_inside r place [] l = refl
-laid_inside r place (cell m p ∷ cells) l = rw (lt-ltb p (4 ^ m) l.1) (laid_inside r _ cells l.3)
+laid_inside r place (cell m p ∷ cells) l = rw (lt-ltb p (4 ^ m) l.1) (laid_inside r (suc p * 4 ^ (r - m)) cells l.3)
 
 pub laid_apart : (r place : ℕ) (cells : List Cell) → Laid r place cells → apart r place cells ≡ true
 unfolding apart
 laid_apart r place [] l = refl
-laid_apart r place (cell m p ∷ cells) l = rw (le-leb place (p * 4 ^ (r - m)) l.2) (laid_apart r _ cells l.3)
+laid_apart r place (cell m p ∷ cells) l = rw (le-leb place (p * 4 ^ (r - m)) l.2) (laid_apart r (suc p * 4 ^ (r - m)) cells l.3)
 
 pub ordered_laid : (r : ℕ) (xs : List ℕ) → shallow r (cells_in xs) ≡ true → inside (cells_in xs) ≡ true → ordered r xs ≡ true → Laid r 0 (cells_in xs)
 unfolding ordered

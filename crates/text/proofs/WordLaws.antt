@@ -87,6 +87,8 @@ spaced_words [] = refl
 spaced_words (b ∷ line) = go (eqb b 32) refl (words_of line) (some_word line) (spaced_words line)
   where
     go : (u : Bool) → eqb b 32 ≡ u → (ws : List (List ℕ)) → Some ws → spaced ws ≡ line → spaced (cond u ([] ∷ ws) (grown b ws)) ≡ b ∷ line
+    go true e [] s p = elim s [ ]
+    go false e [] s p = elim s [ ]
     go true e (w ∷ ws) s p = rw (eqb-true b 32 e) (ap (λ (l : List ℕ). 32 ∷ l) p)
     go false e (w ∷ []) s p = ap (λ (l : List ℕ). b ∷ l) p
     go false e (w ∷ v ∷ ws) s p = ap (λ (l : List ℕ). b ∷ l) p

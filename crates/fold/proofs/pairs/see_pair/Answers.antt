@@ -1,0 +1,16 @@
+-- `see_pair`: as the position is inside or not.
+use borrow.Author.Rules.{rules}
+use Rattle.fold.proofs.PairTestLaws.{seeing}
+use Rattle.fold.proofs.pairs.see_pair.Goals as goal
+
+pub returns-then-p-position_count : goal.returns-then-p-position_count
+returns-then-p-position_count c = search (rules, seeing)
+
+pub overflow_mul-first : goal.overflow_mul-first
+overflow_mul-first c = search (rules, seeing)
+
+pub overflow_add-result : goal.overflow_add-result
+overflow_add-result c = search (rules, seeing)
+
+pub returns : goal.returns
+returns c = search (rules, seeing)
