@@ -1,0 +1,12 @@
+-- `groups::all_under` tests child after child, and stops at the first that is not under the line.
+use Prim.Native.Nat.{◌-◌}
+use borrow.Author.Rules.{rules}
+use Rattle.classifier.proofs.SetLaws.{Passed, pass_start, pass_end, under_no, under_next}
+use Rattle.classifier.specs.Splits.{all_under}
+use Rattle.classifier.proofs.groups.all_under.Given as goal
+
+abbrev pub invariant-loop-d : goal.invariant-loop-d
+invariant-loop-d l = Passed (all_under l.s) l.children l.group.has l.d
+
+abbrev pub decreases-loop-d : goal.decreases-loop-d
+decreases-loop-d l = 4 - l.d

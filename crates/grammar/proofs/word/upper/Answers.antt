@@ -1,0 +1,13 @@
+-- `word::upper` is the definition: each arm by the range that the byte is in.
+use Rattle.grammar.proofs.WordByteLaws.{bytes}
+use borrow.Author.Rules.{rules}
+use Rattle.grammar.proofs.word.upper.Goals as goal
+
+pub returns-in-97-to-122 : goal.returns-in-97-to-122
+returns-in-97-to-122 c = search (rules, bytes)
+
+pub returns-in_default : goal.returns-in_default
+returns-in_default c = search (rules, bytes)
+
+pub returns-in_default-2 : goal.returns-in_default-2
+returns-in_default-2 c = search (rules, bytes)

@@ -1,0 +1,13 @@
+-- `word::write_along` puts the bytes at the front: after i turns, the first i of them are there.
+use mathlib.Core.Path.{◌≡◌, refl}
+use Prim.Native.Nat.{◌-◌, ◌≤◌}
+use native.Mathlib.Omega.{arith}
+use lib.ListN.{length, length-set}
+use Rattle.whole.proofs.Fill.{poured, poured_more, poured_all}
+use Rattle.grammar.proofs.word.write_along.Given as goal
+
+abbrev pub invariant-loop-i : goal.invariant-loop-i
+invariant-loop-i l = (l.i ≤ length l.s) × ((length l.out ≡ length l.initial.out) × (l.out ≡ poured l.s l.i l.initial.out))
+
+abbrev pub decreases-loop-i : goal.decreases-loop-i
+decreases-loop-i l = length l.s - l.i

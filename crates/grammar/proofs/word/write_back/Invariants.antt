@@ -1,0 +1,15 @@
+-- `word::write_back` puts the reversed word at the front: after i turns, the first i bytes of it are there.
+use mathlib.Core.Path.{◌≡◌, refl, sym, ◌∙◌}
+use Prim.Native.Nat.{◌-◌, ◌≤◌}
+use native.Mathlib.Omega.{arith}
+use lib.ListN.{length, length-set}
+use Rattle.whole.proofs.Fill.{poured, poured_more, poured_all}
+use Rattle.grammar.specs.Words.{reversed}
+use Rattle.grammar.proofs.WordByteLaws.{length_reversed, reversed_at}
+use Rattle.grammar.proofs.word.write_back.Given as goal
+
+abbrev pub invariant-loop-i : goal.invariant-loop-i
+invariant-loop-i l = (l.i ≤ length l.s) × ((length l.out ≡ length l.initial.out) × (l.out ≡ poured (reversed l.s) l.i l.initial.out))
+
+abbrev pub decreases-loop-i : goal.decreases-loop-i
+decreases-loop-i l = length l.s - l.i
