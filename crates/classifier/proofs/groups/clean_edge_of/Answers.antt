@@ -1,5 +1,4 @@
 -- `groups::clean_edge_of` finds nothing where the child is not of the set.
-use borrow.Author.Rules.{rules}
 use Rattle.classifier.proofs.EdgeLaws.{edge_out, edge_of}
 use Rattle.classifier.proofs.groups.clean_edge_of.Goals as goal
 
