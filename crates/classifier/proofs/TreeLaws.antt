@@ -73,28 +73,28 @@ module _ (n : ℕ) (gs : List Polygon) where
   tree_none h = go n
     where
       go : (n : ℕ) → tree_of n gs ≡ stuck
-      go zero = grown_none _ gs h
-      go (suc n) = grown_none _ gs h
+      go zero = grown_none (λ _. stuck) gs h
+      go (suc n) = grown_none (tree_of n) gs h
 
   pub tree_only : length gs ≡ 1 → tree_of n gs ≡ only (first_digit gs)
   unfolding tree_of
   tree_only h = go n
     where
       go : (n : ℕ) → tree_of n gs ≡ only (first_digit gs)
-      go zero = grown_only _ gs h
-      go (suc n) = grown_only _ gs h
+      go zero = grown_only (λ _. stuck) gs h
+      go (suc n) = grown_only (tree_of n) gs h
 
   pub tree_stuck : 2 ≤ length gs → none ≡ first_clean gs (all_edges gs) → tree_of n gs ≡ stuck
   unfolding tree_of
   tree_stuck h e = go n
     where
       go : (n : ℕ) → tree_of n gs ≡ stuck
-      go zero = grown_split _ gs h ∙ ap (split_by (λ _. stuck) gs) (sym e)
-      go (suc n) = grown_split _ gs h ∙ ap (split_by (tree_of n) gs) (sym e)
+      go zero = grown_split (λ _. stuck) gs h ∙ ap (split_by (λ _. stuck) gs) (sym e)
+      go (suc n) = grown_split (tree_of n) gs h ∙ ap (split_by (tree_of n) gs) (sym e)
 
   pub tree_split : {s : Separator} → 2 ≤ length gs → some s ≡ first_clean gs (all_edges gs) → tree_of (suc n) gs ≡ split s (tree_of n (polygons_on true s gs)) (tree_of n (polygons_on false s gs))
   unfolding tree_of
-  tree_split h e = grown_split _ gs h ∙ ap (split_by (tree_of n) gs) (sym e)
+  tree_split h e = grown_split (tree_of n) gs h ∙ ap (split_by (tree_of n) gs) (sym e)
 
 -- ---- how many lines it has
 pub added_long : (ss : List Separator) (s : Separator) → length (with_separator ss s) ≤ suc (length ss)

@@ -1,6 +1,5 @@
 -- `edges::corner_count` is the count of its hull.
 use mathlib.Core.Path.{◌∙◌}
-use borrow.Author.Rules.{rules}
 use Rattle.classifier.proofs.PolygonLaws.{corners_count}
 use Rattle.classifier.proofs.edges.corner_count.Goals as goal
 

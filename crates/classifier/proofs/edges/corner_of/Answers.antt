@@ -1,5 +1,4 @@
 -- `edges::corner_of` is the corner at the place, turned as the footprint is.
-use borrow.Author.Rules.{rules}
 use Rattle.classifier.proofs.HullLaws.{place_fits}
 use Rattle.classifier.proofs.PolygonLaws.{corner_place, corner_at_lem}
 use Rattle.classifier.proofs.edges.corner_of.Goals as goal

@@ -1,6 +1,5 @@
 -- `edges::edge` ends at the next corner, or at the first one.
 use native.Mathlib.Omega.{arith}
-use borrow.Author.Rules.{rules}
 use Rattle.classifier.proofs.EdgeLaws.{edge_next, edge_last}
 use Rattle.classifier.proofs.edges.edge.Goals as goal
 

@@ -1,7 +1,6 @@
 -- `groups::all_under` tests child after child, and stops at the first that is not under the line.
 use Prim.Native.Nat.{◌-◌}
-use borrow.Author.Rules.{rules}
-use Rattle.classifier.proofs.SetLaws.{Passed, pass_start, pass_end, under_no, under_next}
+use Rattle.classifier.proofs.SetLaws.{Passed}
 use Rattle.classifier.specs.Splits.{all_under}
 use Rattle.classifier.proofs.groups.all_under.Given as goal
 

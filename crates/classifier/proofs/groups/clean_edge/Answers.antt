@@ -1,10 +1,6 @@
 -- `groups::clean_edge` goes along the edges: the first clean one of those left is the first of all, at each turn.
-use Prim.Native.Nat.{◌-◌}
 use native.Mathlib.Omega.{arith}
-use borrow.Author.Rules.{rules}
-use Rattle.classifier.proofs.EdgeLaws.{Sought, seek_start, seek_end, seek_found, seek_next}
-use Rattle.classifier.specs.Inside.Sets.{members}
-use Rattle.classifier.specs.Shapes.{placed_corners}
+use Rattle.classifier.proofs.EdgeLaws.{seek_start, seek_end, seek_found, seek_next}
 use Rattle.classifier.proofs.groups.clean_edge.Goals as goal
 
 pub loop-i-init : goal.loop-i-init

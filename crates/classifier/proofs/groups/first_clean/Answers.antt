@@ -1,10 +1,8 @@
 -- `groups::first_clean` goes along the children: the first clean edge of those left is the first of all, at each turn.
 use mathlib.Core.Path.{sym, ap, ◌∙◌}
-use Prim.Native.Nat.{◌-◌}
-use borrow.Author.Rules.{rules}
 use Rattle.classifier.specs.Inside.Sets.{members, found_line}
 use Rattle.classifier.proofs.EdgeLaws.{seen, look_found, look_next}
-use Rattle.classifier.proofs.SetLaws.{Passed, pass_start, pass_end}
+use Rattle.classifier.proofs.SetLaws.{pass_start, pass_end}
 use Rattle.classifier.proofs.groups.first_clean.Goals as goal
 
 pub loop-d-init : goal.loop-d-init

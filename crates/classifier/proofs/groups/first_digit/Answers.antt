@@ -1,5 +1,4 @@
 -- `groups::first_digit` asks digit after digit.
-use borrow.Author.Rules.{rules}
 use Rattle.classifier.proofs.SetLaws.{digit_0, digit_1, digit_2, digit_3, digit_none}
 use Rattle.classifier.proofs.groups.first_digit.Goals as goal
 

@@ -1,5 +1,4 @@
 -- `groups::group_on` keeps each of the four children by itself.
-use borrow.Author.Rules.{rules}
 use Rattle.classifier.proofs.SetLaws.{side_is}
 use Rattle.classifier.proofs.groups.group_on.Goals as goal
 

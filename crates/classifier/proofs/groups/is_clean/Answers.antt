@@ -1,6 +1,5 @@
 -- `groups::is_clean` asks of the two sides what the definition does.
 use borrow.Author.Tests.{not-true, not-false}
-use borrow.Author.Rules.{rules}
 use Rattle.classifier.proofs.EdgeLaws.{clean_off, clean_none, clean_some}
 use Rattle.classifier.proofs.groups.is_clean.Goals as goal
 

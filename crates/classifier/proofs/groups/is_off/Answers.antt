@@ -1,7 +1,6 @@
 -- `groups::is_off` asks of a child of the set alone.
 use mathlib.Core.Path.{ap}
 use mathlib.Core.Bool.{not}
-use borrow.Author.Rules.{rules}
 use Rattle.classifier.proofs.SetLaws.{out_of, one_of}
 use Rattle.classifier.proofs.groups.is_off.Goals as goal
 

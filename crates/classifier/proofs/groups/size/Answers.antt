@@ -1,7 +1,5 @@
 -- `groups::size` counts the digits: those counted and those of the digits left are all, at each turn.
-use Prim.Native.Nat.{◌-◌}
-use borrow.Author.Rules.{rules}
-use Rattle.classifier.proofs.SetLaws.{Counted, count_start, count_fits, count_step, count_end}
+use Rattle.classifier.proofs.SetLaws.{count_start, count_fits, count_step, count_end}
 use Rattle.classifier.proofs.groups.size.Goals as goal
 
 pub loop-d-init : goal.loop-d-init

@@ -1,7 +1,6 @@
 -- `groups::size` counts the digits: those counted and those of the digits left are all, at each turn.
 use Prim.Native.Nat.{◌-◌}
-use borrow.Author.Rules.{rules}
-use Rattle.classifier.proofs.SetLaws.{Counted, count_start, count_fits, count_step, count_end}
+use Rattle.classifier.proofs.SetLaws.{Counted}
 use Rattle.classifier.proofs.groups.size.Given as goal
 
 abbrev pub invariant-loop-d : goal.invariant-loop-d

@@ -1,6 +1,5 @@
 -- `groups::stays` compares the side that a child of the set is on with the one asked for.
 use mathlib.Core.Path.{◌∙◌, ap}
-use borrow.Author.Rules.{rules}
 use Rattle.classifier.proofs.SetLaws.{out_of, one_of, on_side_lem}
 use Rattle.classifier.specs.Inside.Sets.{on_side}
 use Rattle.classifier.proofs.groups.stays.Goals as goal

@@ -1,6 +1,5 @@
 -- `splits::classifier_of` goes through the tree of all four children, and asks for each pattern of sides.
 use mathlib.Core.Path.{refl}
-use borrow.Author.Rules.{rules}
 use Rattle.classifier.specs.Inside.Sets.{members_from}
 use Rattle.classifier.proofs.GatherLaws.{start_room, found_kept, classifier_is}
 use Rattle.classifier.specs.Shapes.{polygons_of}

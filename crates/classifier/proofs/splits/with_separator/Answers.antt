@@ -1,5 +1,4 @@
 -- `splits::with_separator` looks for the line first.
-use borrow.Author.Rules.{rules}
 use Rattle.classifier.proofs.GatherLaws.{add_there, add_new}
 use Rattle.classifier.proofs.splits.with_separator.Goals as goal
 
