@@ -7,7 +7,7 @@ use Prim.Native.Nat.{ℕ, zero, suc, ◌+◌, ◌-◌, ◌≤◌, ◌^◌}
 use native.Mathlib.Omega.{arith}
 use lib.Dec.{T, ltb, leb, eqb, eqb→eq}
 use lib.ListN.{length}
-use mir.Syntax.{Width, place, Opd, copy, int, int_neg, int_big, float, opd_true, opd_false, opd_unit, ptr_const, Rv, rv_opd, op2, op1, addr_of, aggregate, repeat, Body, skip, seq, assign, block, loop, cond, switch, exit, return, call, Arms, arm, default, no_default}
+use mir.Syntax.{Width, place, Opd, copy, int, int_neg, int_big, float, opd_true, opd_false, opd_unit, ptr_const, size_of, align_of, num_of, fn_addr, vtable, Rv, rv_opd, op2, op1, addr_of, aggregate, repeat, repeat_p, select, Body, skip, seq, assign, block, loop, cond, switch, exit, return, call, unreachable, call_v, lend_static, Arms, arm, default, no_default}
 use mir.Val.{bits}
 use Rattle.whole.proofs.Bools.{both_left, both_right}
 
@@ -53,6 +53,11 @@ literal_of opd_true = plain 0
 literal_of opd_false = plain 0
 literal_of opd_unit = plain 0
 literal_of (ptr_const n) = plain 0
+literal_of (size_of t) = plain 0
+literal_of (align_of t) = plain 0
+literal_of (num_of w t) = plain 0
+literal_of (fn_addr f s) = plain 0
+literal_of (vtable t s) = plain 0
 
 abbrev value_of : Rv → Literal
 value_of (rv_opd o) = literal_of o
@@ -61,6 +66,8 @@ value_of (op1 o a) = plain 0
 value_of (addr_of p) = plain 0
 value_of (aggregate os) = plain 0
 value_of (repeat o n) = plain 0
+value_of (repeat_p o n) = plain 0
+value_of (select m a b) = plain 0
 
 abbrev assigned_of : Body → Literal
 assigned_of skip = plain 0
@@ -73,6 +80,9 @@ assigned_of (switch c r) = plain 0
 assigned_of (exit n) = plain 0
 assigned_of return = plain 0
 assigned_of (call f os p) = plain 0
+assigned_of unreachable = plain 0
+assigned_of (call_v o s os p) = plain 0
+assigned_of (lend_static p t c) = plain 0
 
 abbrev literals_of : Arms → List Literal
 literals_of (arm ks b r) = assigned_of b ∷ literals_of r
@@ -90,6 +100,9 @@ table_of (switch c r) = literals_of r
 table_of (exit n) = []
 table_of return = []
 table_of (call f os p) = []
+table_of unreachable = []
+table_of (call_v o s os p) = []
+table_of (lend_static p t c) = []
 
 -- ---- the test: each literal is one of the width, and the number that f has at its place
 unfoldable pub agrees : Width → (ℕ → ℕ) → ℕ → List Literal → Bool

@@ -25,34 +25,21 @@ fn combined(operation: Operation, a: &[u64], b: &[u64], pairs: &mut [u64], count
 }
 
 // The area that covers what one of two covers, folded.
-#[unsafe(no_mangle)]
-pub extern "C" fn hb_area_union(a: &[u64], b: &[u64], pairs: &mut [u64], count: &mut [u64]) -> u8
+pub fn hb_area_union(a: &[u64], b: &[u64], pairs: &mut [u64], count: &mut [u64]) -> u8
     ensures { (result ≡ status_of (first_of (combined_call Operation.Union a.now b.now) count.old) pairs.old) × (pairs.new ≡ after_call (first_of (combined_call Operation.Union a.now b.now) count.old) pairs.old) × (count.new ≡ after_call (second_of (combined_call Operation.Union a.now b.now) pairs.old) count.old) }
 {
     combined(Operation::Union, a, b, pairs, count)
 }
 
 // The area that covers what both of two cover, folded.
-#[unsafe(no_mangle)]
-pub extern "C" fn hb_area_intersection(
-    a: &[u64],
-    b: &[u64],
-    pairs: &mut [u64],
-    count: &mut [u64],
-) -> u8
+pub fn hb_area_intersection(a: &[u64], b: &[u64], pairs: &mut [u64], count: &mut [u64]) -> u8
     ensures { (result ≡ status_of (first_of (combined_call Operation.Intersection a.now b.now) count.old) pairs.old) × (pairs.new ≡ after_call (first_of (combined_call Operation.Intersection a.now b.now) count.old) pairs.old) × (count.new ≡ after_call (second_of (combined_call Operation.Intersection a.now b.now) pairs.old) count.old) }
 {
     combined(Operation::Intersection, a, b, pairs, count)
 }
 
 // The area that covers what the first of two covers and the second does not, folded.
-#[unsafe(no_mangle)]
-pub extern "C" fn hb_area_difference(
-    a: &[u64],
-    b: &[u64],
-    pairs: &mut [u64],
-    count: &mut [u64],
-) -> u8
+pub fn hb_area_difference(a: &[u64], b: &[u64], pairs: &mut [u64], count: &mut [u64]) -> u8
     ensures { (result ≡ status_of (first_of (combined_call Operation.Difference a.now b.now) count.old) pairs.old) × (pairs.new ≡ after_call (first_of (combined_call Operation.Difference a.now b.now) count.old) pairs.old) × (count.new ≡ after_call (second_of (combined_call Operation.Difference a.now b.now) pairs.old) count.old) }
 {
     combined(Operation::Difference, a, b, pairs, count)
@@ -69,8 +56,7 @@ fn put_flag(b: bool, out: &mut [u64]) -> u8
 }
 
 // Whether an area covers all of a cell: 0 or 1.
-#[unsafe(no_mangle)]
-pub extern "C" fn hb_area_contains(a: &[u64], resolution: u8, s: u64, out: &mut [u64]) -> u8
+pub fn hb_area_contains(a: &[u64], resolution: u8, s: u64, out: &mut [u64]) -> u8
     ensures { (result ≡ status_of (area_contains_call a.now resolution s) out.old) × (out.new ≡ after_call (area_contains_call a.now resolution s) out.old) }
 {
     let answer = area::questions::contains(a, resolution, s);
@@ -81,8 +67,7 @@ pub extern "C" fn hb_area_contains(a: &[u64], resolution: u8, s: u64, out: &mut 
 }
 
 // How many cells of a resolution an area covers.
-#[unsafe(no_mangle)]
-pub extern "C" fn hb_area_size(a: &[u64], resolution: u8, out: &mut [u64]) -> u8
+pub fn hb_area_size(a: &[u64], resolution: u8, out: &mut [u64]) -> u8
     ensures { (result ≡ status_of (area_size_call a.now resolution) out.old) × (out.new ≡ after_call (area_size_call a.now resolution) out.old) }
 {
     let answer = area::questions::size(a, resolution);
@@ -94,8 +79,7 @@ pub extern "C" fn hb_area_size(a: &[u64], resolution: u8, out: &mut [u64]) -> u8
 
 // The area that a module reports by triples, in any order and repeated or not, folded: its pairs, and how
 // many cells they are to `count`. `work` has one number for each triple.
-#[unsafe(no_mangle)]
-pub extern "C" fn hb_area_report(
+pub fn hb_area_report(
     orientation: u8,
     resolution: u8,
     triples: &[i32],

@@ -11,8 +11,7 @@ use sketch::DrawAnswer;
 use triple::Triple;
 
 // The cell that a position names: x y z flavor.
-#[unsafe(no_mangle)]
-pub extern "C" fn hb_cell(orientation: u8, resolution: u8, s: u64, out: &mut [i32]) -> u8
+pub fn hb_cell(orientation: u8, resolution: u8, s: u64, out: &mut [i32]) -> u8
     ensures { (result ≡ status_of (cell_call orientation resolution s) out.old) × (out.new ≡ after_call (cell_call orientation resolution s) out.old) }
 {
     let answer = lsystem::cell::s_to_cell(orientation, resolution, s);
@@ -23,8 +22,7 @@ pub extern "C" fn hb_cell(orientation: u8, resolution: u8, s: u64, out: &mut [i3
 }
 
 // The cells of the curve in order, drawn from its rules with 1 to 6 passes: x y z flavor of each.
-#[unsafe(no_mangle)]
-pub extern "C" fn hb_draw(orientation: u8, resolution: u8, out: &mut [i32]) -> u8
+pub fn hb_draw(orientation: u8, resolution: u8, out: &mut [i32]) -> u8
     ensures { (result ≡ status_of (draw_call orientation resolution) out.old) × (out.new ≡ after_call (draw_call orientation resolution) out.old) }
 {
     let answer = sketch::draw(orientation, resolution, out);
@@ -35,15 +33,7 @@ pub extern "C" fn hb_draw(orientation: u8, resolution: u8, out: &mut [i32]) -> u
 }
 
 // The position that names a cell, and the looks of its lookup: s flavor picks comparisons.
-#[unsafe(no_mangle)]
-pub extern "C" fn hb_position(
-    orientation: u8,
-    resolution: u8,
-    x: i32,
-    y: i32,
-    z: i32,
-    out: &mut [u64],
-) -> u8
+pub fn hb_position(orientation: u8, resolution: u8, x: i32, y: i32, z: i32, out: &mut [u64]) -> u8
     ensures { (result ≡ status_of (position_call orientation resolution x y z) out.old) × (out.new ≡ after_call (position_call orientation resolution x y z) out.old) }
 {
     let answer = lsystem::lookup::triple_to_s(orientation, resolution, Triple::new(x, y, z));

@@ -10,8 +10,7 @@ use triple::Triple;
 
 // The node below a cell: orientation resolution motif flip to `numbers`, and its two positions to
 // `places`.
-#[unsafe(no_mangle)]
-pub extern "C" fn hb_node(
+pub fn hb_node(
     orientation: u8,
     resolution: u8,
     x: i32,
@@ -32,8 +31,7 @@ pub extern "C" fn hb_node(
 // The child step from a node, at its own resolution and in its own orientation: x y z flavor of the
 // child's cell and orientation resolution motif flip of the node below it to `numbers`, and that node's
 // two positions to `places`.
-#[unsafe(no_mangle)]
-pub extern "C" fn hb_child(
+pub fn hb_child(
     orientation: u8,
     resolution: u8,
     motif: i32,

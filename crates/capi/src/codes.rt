@@ -12,8 +12,7 @@ use treated::CheckAnswer;
 use triple::refusal::Refusal;
 
 // Writes a position's code to `bytes`, and the count of its bytes to `out`.
-#[unsafe(no_mangle)]
-pub extern "C" fn hb_code_write(
+pub fn hb_code_write(
     orientation: u8,
     resolution: u8,
     s: u64,
@@ -31,8 +30,7 @@ pub extern "C" fn hb_code_write(
 }
 
 // Reads the code at the front of some bytes: orientation resolution s count old.
-#[unsafe(no_mangle)]
-pub extern "C" fn hb_code_read(bytes: &[u8], out: &mut [u64]) -> u8
+pub fn hb_code_read(bytes: &[u8], out: &mut [u64]) -> u8
     ensures { (result ≡ status_of (read_call bytes.now) out.old) × (out.new ≡ after_call (read_call bytes.now) out.old) }
 {
     let answer = code::read(bytes);
@@ -44,8 +42,7 @@ pub extern "C" fn hb_code_read(bytes: &[u8], out: &mut [u64]) -> u8
 
 // Mends a list of codes to `out`, which is as long as the list, and puts the length of the mended list and
 // the number of changes to `counts`.
-#[unsafe(no_mangle)]
-pub extern "C" fn hb_mend(list: &[u8], out: &mut [u8], counts: &mut [u64]) -> u8
+pub fn hb_mend(list: &[u8], out: &mut [u8], counts: &mut [u64]) -> u8
     ensures { (result ≡ status_of (first_of (mend_both list.now out.old) counts.old) out.old) × (out.new ≡ after_call (first_of (mend_both list.now out.old) counts.old) out.old) × (counts.new ≡ after_call (second_of (mend_both list.now out.old) out.old) counts.old) }
 {
     if counts.len() < 2 {
@@ -60,8 +57,7 @@ pub extern "C" fn hb_mend(list: &[u8], out: &mut [u8], counts: &mut [u64]) -> u8
 
 // The first step of mending what is left of a list: what it writes to `out`, and to `counts` how many
 // bytes it takes, how many it writes and the change's number.
-#[unsafe(no_mangle)]
-pub extern "C" fn hb_mend_step(rest: &[u8], out: &mut [u8], counts: &mut [u64]) -> u8
+pub fn hb_mend_step(rest: &[u8], out: &mut [u8], counts: &mut [u64]) -> u8
     ensures { (result ≡ status_of (first_of (mend_step_both rest.now) counts.old) out.old) × (out.new ≡ after_call (first_of (mend_step_both rest.now) counts.old) out.old) × (counts.new ≡ after_call (second_of (mend_step_both rest.now) out.old) counts.old) }
 {
     if counts.len() < 3 {
@@ -76,8 +72,7 @@ pub extern "C" fn hb_mend_step(rest: &[u8], out: &mut [u8], counts: &mut [u64]) 
 
 // Checks a partner's treated list: fault number. The fault is 0 where the list is good, and the number
 // how many codes it has; else the number is that of the first code at fault.
-#[unsafe(no_mangle)]
-pub extern "C" fn hb_check(list: &[u8], out: &mut [u64]) -> u8
+pub fn hb_check(list: &[u8], out: &mut [u64]) -> u8
     ensures { (result ≡ status_of (check_call list.now) out.old) × (out.new ≡ after_call (check_call list.now) out.old) }
 {
     let answer = treated::check(list);

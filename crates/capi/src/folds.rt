@@ -9,8 +9,7 @@ use fold::unfolding::UnfoldAnswer;
 
 // The fewest whole cells that cover a list of positions: resolution and position of each, in curve
 // order, to `pairs`, and how many cells they are to `count`.
-#[unsafe(no_mangle)]
-pub extern "C" fn hb_fold(
+pub fn hb_fold(
     orientation: u8,
     resolution: u8,
     positions: &[u64],
@@ -29,8 +28,7 @@ pub extern "C" fn hb_fold(
 
 // The positions at a resolution that cells cover, ascending, to `positions`, and how many they are to
 // `count`.
-#[unsafe(no_mangle)]
-pub extern "C" fn hb_unfold(
+pub fn hb_unfold(
     orientation: u8,
     resolution: u8,
     pairs: &[u64],

@@ -11,8 +11,7 @@ use triple::refusal::Refusal;
 
 // The cell at place s of what a part of a table gives, whoever wrote it, after `passes` passes from a
 // token: a b flavor. The part begins at entry `start` and has `states` states.
-#[unsafe(no_mangle)]
-pub extern "C" fn hb_descend(
+pub fn hb_descend(
     table: &[i32],
     start: u64,
     states: u64,
@@ -34,8 +33,7 @@ pub extern "C" fn hb_descend(
 
 // Compiles a grammar's text: its table from entry `start` of `table` on, and the number of states to
 // `out`. Of a text that is refused, the status has the line at fault in its high byte.
-#[unsafe(no_mangle)]
-pub extern "C" fn hb_compile(text: &[u8], table: &mut [i32], start: u64, out: &mut [u64]) -> u16
+pub fn hb_compile(text: &[u8], table: &mut [i32], start: u64, out: &mut [u64]) -> u16
     ensures { (result ≡ compile_status text.now (length table.old) start out.old) × (table.new ≡ table_after text.now table.old start out.old) × (out.new ≡ count_after text.now (length table.old) start out.old) }
 {
     if out.len() < 1 {

@@ -7,14 +7,14 @@
 // is refusal 10, tested last. A slice passes as a pointer and then a length.
 #![tactic(auto)]
 
-mod areas;
-mod cells;
-mod children;
-mod codes;
-mod folds;
-mod grammars;
-mod places;
-mod polygons;
+pub mod areas;
+pub mod cells;
+pub mod children;
+pub mod codes;
+pub mod folds;
+pub mod grammars;
+pub mod places;
+pub mod polygons;
 mod put;
-mod queries;
+pub mod queries;
 mod verdict;

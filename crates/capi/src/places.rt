@@ -10,8 +10,7 @@ use turtle::AB;
 use turtle::corner::{CornerAnswer, TripleAnswer};
 
 // The cell that a point falls in, and whether it was moved to come into bounds: x y z moved.
-#[unsafe(no_mangle)]
-pub extern "C" fn hb_point(i: f64, j: f64, resolution: u8, out: &mut [i32]) -> u8
+pub fn hb_point(i: f64, j: f64, resolution: u8, out: &mut [i32]) -> u8
     ensures { (result ≡ status_of (point_call i j resolution) out.old) × (out.new ≡ after_call (point_call i j resolution) out.old) }
 {
     let answer = curve::round_to_triple(i, j, resolution);
@@ -22,8 +21,7 @@ pub extern "C" fn hb_point(i: f64, j: f64, resolution: u8, out: &mut [i32]) -> u
 }
 
 // The same by exact fractions: x y z moved.
-#[unsafe(no_mangle)]
-pub extern "C" fn hb_point_exact(i: f64, j: f64, resolution: u8, out: &mut [i32]) -> u8
+pub fn hb_point_exact(i: f64, j: f64, resolution: u8, out: &mut [i32]) -> u8
     ensures { (result ≡ status_of (exact_point_call i j resolution) out.old) × (out.new ≡ after_call (exact_point_call i j resolution) out.old) }
 {
     let answer = curve::round_exactly(i, j, resolution);
@@ -34,8 +32,7 @@ pub extern "C" fn hb_point_exact(i: f64, j: f64, resolution: u8, out: &mut [i32]
 }
 
 // The corner sum of a triple's cell: a b.
-#[unsafe(no_mangle)]
-pub extern "C" fn hb_corner_sum(x: i32, y: i32, z: i32, out: &mut [i64]) -> u8
+pub fn hb_corner_sum(x: i32, y: i32, z: i32, out: &mut [i64]) -> u8
     ensures { (result ≡ status_of (corner_call x y z) out.old) × (out.new ≡ after_call (corner_call x y z) out.old) }
 {
     let answer = turtle::corner::corner_sum(Triple::new(x, y, z));
@@ -46,8 +43,7 @@ pub extern "C" fn hb_corner_sum(x: i32, y: i32, z: i32, out: &mut [i64]) -> u8
 }
 
 // The triple whose cell has a corner sum: x y z.
-#[unsafe(no_mangle)]
-pub extern "C" fn hb_triple(a: i64, b: i64, out: &mut [i32]) -> u8
+pub fn hb_triple(a: i64, b: i64, out: &mut [i32]) -> u8
     ensures { (result ≡ status_of (triple_call a b) out.old) × (out.new ≡ after_call (triple_call a b) out.old) }
 {
     let answer = AB::new(a, b).to_triple();

@@ -8,8 +8,7 @@ use query::print::PrintAnswer;
 
 // The answer to a query line as the program prints it, without LF, to `text`, and its length to `out`.
 // A line that is refused has an answer too, `!` and the number.
-#[unsafe(no_mangle)]
-pub extern "C" fn hb_line(line: &[u8], text: &mut [u8], out: &mut [u64]) -> u8
+pub fn hb_line(line: &[u8], text: &mut [u8], out: &mut [u64]) -> u8
     ensures { (result ≡ status_of (first_of (line_call line.now) out.old) text.old) × (text.new ≡ after_call (first_of (line_call line.now) out.old) text.old) × (out.new ≡ after_call (second_of (line_call line.now) text.old) out.old) }
 {
     let room = lendable(text.len(), out.len());

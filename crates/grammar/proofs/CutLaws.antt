@@ -12,7 +12,7 @@ use lib.Seq.{drop-cons, length-take-le, drop-drop, get_or-take, take-take}
 use borrow.Author.Tests.{eq-eqb, ne_eqb, not-true, not-false}
 use Rattle.whole.proofs.Bools.{both_left, both_right, is_true, from_true}
 use Rattle.text.specs.Words.{grown, words_of as fields_of, until}
-use Rattle.grammar.specs.Texts.{Row, rows_of, prefixed, shaped, Line, line_of}
+use Rattle.grammar.specs.Texts.{Row, rows_of, prefixed, shaped, line_of}
 use Rattle.whole.proofs.Slices.{drop_take}
 use Rattle.grammar.specs.Inside.RowCuts.{ended, Cut, Misshapen, Three, WholeRow, FirstRow}
 use Rattle.grammar.specs.declared.scan.Shape.{Shape}

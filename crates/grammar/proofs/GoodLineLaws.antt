@@ -51,6 +51,7 @@ not_here true k rest e = absurd (omega arith)
 not_here false k rest e = (tt, e)
 
 nowhere : (bad : List Line → Line → Bool) (before ls : List Line) → first_from bad before ls ≡ 0 → (l : Line) → Memᴰ l ls → (seen : List Line) × T (not (bad seen l))
+nowhere bad before [] e l x = elim x [ ]
 nowhere bad before (a ∷ ls) e l (Memᴰ.head p) = (before, rw p (not_here (bad before a) (length before) _ e).0)
 nowhere bad before (a ∷ ls) e l (Memᴰ.tail m) = nowhere bad (before ++ (a ∷ [])) ls (not_here (bad before a) (length before) _ e).1 l m
 
@@ -63,7 +64,7 @@ chained (bad ∷ bads) n ls next e =
 
 -- ---- what the tests ask, as facts
 not_not : (t : Bool) → T (not (not t)) → T t
-not_not t h = rw (Bool.not_not t) at h
+not_not t h = rw (Bool.not-not t) at h
 
 uppercase_name : (before : List Line) (l : Line) → T (not (bad_motif before l)) → T (is_upper l.name)
 unfolding bad_motif

@@ -15,7 +15,7 @@ use Rattle.turtle.specs.Plane.{ab, origin, ◌⊕◌, neg, signed, flipped, faci
 use Rattle.turtle.specs.Inside.Sizes.{Within, Small}
 use Rattle.turtle.specs.declared.letter.Stroke.{Stroke}
 use Rattle.turtle.specs.declared.walk.Turtle.{Turtle}
-use Rattle.turtle.specs.Walk.{Sym, left, right, letter, turtle, start, move}
+use Rattle.turtle.specs.Walk.{Sym, left, right, letter, turtle, move}
 use Rattle.turtle.proofs.PlaneLaws.{⊕_assoc, ⊕_idr, signed_origin}
 use Rattle.turtle.proofs.WalkLaws.{v_small, small_more, add_small}
 use Rattle.classifier.specs.declared.Corner.{Corner}

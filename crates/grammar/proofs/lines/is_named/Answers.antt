@@ -1,9 +1,6 @@
 -- `lines::is_named` finds the letter among the first n lines: none of those passed has it.
-use mathlib.Core.Path.{◌≡◌, refl, sym, ◌∙◌}
-use Prim.Native.Nat.{◌-◌}
+use mathlib.Core.Path.{refl, sym, ◌∙◌}
 use native.Mathlib.Nat.{sub-zero}
-use borrow.Author.Rules.{rules}
-use Rattle.grammar.specs.Scans.{has_name}
 use Rattle.grammar.proofs.TallyLaws.{name_here, name_next, name_none}
 use Rattle.grammar.proofs.lines.is_named.Goals as goal
 

@@ -1,10 +1,7 @@
 -- `lines::is_named` finds the letter among the first n lines: none of those passed has it.
-use mathlib.Core.Path.{◌≡◌, refl, sym, ◌∙◌}
+use mathlib.Core.Path.{◌≡◌}
 use Prim.Native.Nat.{◌-◌}
-use native.Mathlib.Nat.{sub-zero}
-use borrow.Author.Rules.{rules}
 use Rattle.grammar.specs.Scans.{has_name}
-use Rattle.grammar.proofs.TallyLaws.{name_here, name_next, name_none}
 use Rattle.grammar.proofs.lines.is_named.Given as goal
 
 abbrev pub invariant-loop-i : goal.invariant-loop-i

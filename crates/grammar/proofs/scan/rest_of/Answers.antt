@@ -1,6 +1,5 @@
 -- `scan::rest_of` is all that stands from a place on.
 use Rattle.whole.proofs.Slices.{all_from}
-use borrow.Author.Rules.{rules}
 use Rattle.grammar.proofs.scan.rest_of.Goals as goal
 
 pub returns : goal.returns

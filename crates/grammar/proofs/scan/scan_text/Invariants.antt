@@ -1,8 +1,7 @@
 -- `scan::scan_text` cuts the text into its lines: after i turns the first i rows are lines, and their parts are kept.
 use Prim.Native.Nat.{◌-◌}
 use lib.ListN.{length}
-use borrow.Author.Rules.{rules}
-use Rattle.grammar.proofs.ScanLaws.{Scanning, scanning}
+use Rattle.grammar.proofs.ScanLaws.{Scanning}
 use Rattle.grammar.proofs.scan.scan_text.Given as goal
 
 abbrev pub invariant-loop-so_far : goal.invariant-loop-so_far

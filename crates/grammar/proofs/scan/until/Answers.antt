@@ -1,8 +1,5 @@
 -- `scan::until` finds the place of the first byte b: none of those passed is b.
-use Prim.Native.Nat.{◌-◌}
-use lib.ListN.{length}
-use borrow.Author.Rules.{rules}
-use Rattle.grammar.proofs.CutLaws.{Passing, passing_none, passing_next, passing_here, passing_all}
+use Rattle.grammar.proofs.CutLaws.{passing_none, passing_next, passing_here, passing_all}
 use Rattle.grammar.proofs.scan.until.Goals as goal
 
 pub loop-i-init : goal.loop-i-init

@@ -1,8 +1,7 @@
 -- `scan::until` finds the place of the first byte b: none of those passed is b.
 use Prim.Native.Nat.{◌-◌}
 use lib.ListN.{length}
-use borrow.Author.Rules.{rules}
-use Rattle.grammar.proofs.CutLaws.{Passing, passing_none, passing_next, passing_here, passing_all}
+use Rattle.grammar.proofs.CutLaws.{Passing}
 use Rattle.grammar.proofs.scan.until.Given as goal
 
 abbrev pub invariant-loop-i : goal.invariant-loop-i

@@ -22,4 +22,4 @@ pub returns-then-not-fits-3 : goal.returns-then-not-fits-3
 returns-then-not-fits-3 c = search (rules, shapes)
 
 pub returns : goal.returns
-returns c = three _ c.until-name.ensures c.if-row-name.false c.rest_of-rest.ensures c.until-rule.ensures c.if-rest-rule.false c.rest_of-last.ensures c.until-draw.ensures c.if-draw-last.false c.fits-2.ensures c.if-not-fits.false-raw c.fits-3.ensures c.if-not-fits-2.false-raw c.fits4.ensures c.if-not-fits-3.false-raw
+returns c = three _ c.until-name.ensures c.if-row-name.false c.rest_of-rest.ensures c.until-rule.ensures c.if-rest-rule.false c.rest_of-last.ensures c.until-draw.ensures c.if-draw-last.false c.fits.ensures c.if-not-fits.false-raw c.fits-2.ensures c.if-not-fits-2.false-raw c.fits-3.ensures c.if-not-fits-3.false-raw

@@ -1,6 +1,5 @@
 -- `tally::byte_of` reads a word from one end or the other.
 use Rattle.grammar.proofs.TallyLaws.{byte_back, byte_along}
-use borrow.Author.Rules.{rules}
 use Rattle.grammar.proofs.tally.byte_of.Goals as goal
 
 pub returns-then-back : goal.returns-then-back

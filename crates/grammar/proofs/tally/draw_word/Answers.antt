@@ -1,10 +1,6 @@
 -- `tally::draw_word` tallies a draw: after i turns, its first i bytes.
-use Prim.Native.Nat.{◌-◌}
 use native.Mathlib.Omega.{arith}
-use lib.ListN.{length, take}
-use borrow.Author.Rules.{rules}
-use Rattle.grammar.specs.Inside.Tallies.{DrawWord}
-use Rattle.grammar.proofs.TallyLaws.{Modest, modest_none, modest_more, draw_none, draw_next, draw_all}
+use Rattle.grammar.proofs.TallyLaws.{modest_none, modest_more, draw_none, draw_next, draw_all}
 use Rattle.grammar.proofs.tally.draw_word.Goals as goal
 
 pub loop-i-init : goal.loop-i-init

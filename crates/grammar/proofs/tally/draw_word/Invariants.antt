@@ -1,10 +1,8 @@
 -- `tally::draw_word` tallies a draw: after i turns, its first i bytes.
 use Prim.Native.Nat.{◌-◌}
-use native.Mathlib.Omega.{arith}
 use lib.ListN.{length, take}
-use borrow.Author.Rules.{rules}
 use Rattle.grammar.specs.Inside.Tallies.{DrawWord}
-use Rattle.grammar.proofs.TallyLaws.{Modest, modest_none, modest_more, draw_none, draw_next, draw_all}
+use Rattle.grammar.proofs.TallyLaws.{Modest}
 use Rattle.grammar.proofs.tally.draw_word.Given as goal
 
 abbrev pub invariant-loop-i : goal.invariant-loop-i

@@ -1,7 +1,6 @@
 -- `tally::rule_byte` tells what a byte of a rule is: a turn, a letter of a listed motif, or neither.
 use Rattle.grammar.specs.Inside.Places.{lines_by}
 use Rattle.grammar.proofs.TallyLaws.{listed_by, rule_left, rule_right, rule_letter, rule_nothing}
-use borrow.Author.Rules.{rules}
 use Rattle.grammar.proofs.tally.rule_byte.Goals as goal
 
 pub returns-then-b-eq43 : goal.returns-then-b-eq43

@@ -1,12 +1,8 @@
 -- `tally::rule_word` tallies a rule or its reverse: after i turns, the first i bytes.
-use mathlib.Core.List.{List}
-use Prim.Native.Nat.{ℕ, ◌-◌}
 use native.Mathlib.Omega.{arith}
-use lib.ListN.{length, take}
-use borrow.Author.Rules.{rules}
 use Rattle.grammar.specs.Inside.Places.{lines_by}
-use Rattle.grammar.specs.Inside.Tallies.{directed, RuleWord}
-use Rattle.grammar.proofs.TallyLaws.{Modest, modest_none, modest_more, rule_none, rule_next, rule_all, inside_directed, past_directed}
+use Rattle.grammar.specs.Inside.Tallies.{directed}
+use Rattle.grammar.proofs.TallyLaws.{modest_none, modest_more, rule_none, rule_next, rule_all, inside_directed, past_directed}
 use Rattle.grammar.proofs.tally.rule_word.Goals as goal
 
 pub loop-i-init : goal.loop-i-init

@@ -1,6 +1,5 @@
 -- `tally::with_byte` counts one byte more: by its kind.
 use mathlib.Core.Path.{refl}
-use borrow.Author.Rules.{rules}
 use Rattle.grammar.proofs.tally.with_byte.Goals as goal
 
 pub returns-in-Left : goal.returns-in-Left

@@ -1,7 +1,6 @@
 -- `text::bad_count` is test 15.
 use Rattle.grammar.specs.Inside.Places.{line_at, lines_by}
 use Rattle.grammar.proofs.VerdictLaws.{count_verdict}
-use borrow.Author.Rules.{rules}
 use Rattle.grammar.proofs.tests.bad_count.Goals as goal
 
 pub returns : goal.returns

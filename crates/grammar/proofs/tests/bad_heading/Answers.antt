@@ -1,7 +1,6 @@
 -- `text::bad_heading` is test 16: the rule, and then its reverse.
 use Rattle.grammar.specs.Inside.Places.{line_at, lines_by}
 use Rattle.grammar.proofs.VerdictLaws.{heading_along, heading_back}
-use borrow.Author.Rules.{rules}
 use Rattle.grammar.proofs.tests.bad_heading.Goals as goal
 
 pub returns-then-not-rule_word : goal.returns-then-not-rule_word

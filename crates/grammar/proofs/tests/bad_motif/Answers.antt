@@ -2,7 +2,6 @@
 use native.Mathlib.Omega.{arith}
 use Rattle.grammar.specs.Inside.Places.{line_at, lines_from}
 use Rattle.grammar.proofs.VerdictLaws.{motif_low, motif_high, motif_reserved, motif_named, named_before}
-use borrow.Author.Rules.{rules}
 use Rattle.grammar.proofs.tests.bad_motif.Goals as goal
 
 pub returns-then-b-lt65 : goal.returns-then-b-lt65

@@ -1,7 +1,6 @@
 -- `text::bad_rule` is test 14.
 use Rattle.grammar.specs.Inside.Places.{line_at, lines_by}
 use Rattle.grammar.proofs.VerdictLaws.{rule_verdict}
-use borrow.Author.Rules.{rules}
 use Rattle.grammar.proofs.tests.bad_rule.Goals as goal
 
 pub returns : goal.returns

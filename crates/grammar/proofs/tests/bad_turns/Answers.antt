@@ -1,7 +1,6 @@
 -- `text::bad_turns` is test 18: the rule, and then the draw.
 use Rattle.grammar.specs.Inside.Places.{line_at, lines_by}
 use Rattle.grammar.proofs.VerdictLaws.{turns_rule, turns_draw}
-use borrow.Author.Rules.{rules}
 use Rattle.grammar.proofs.tests.bad_turns.Goals as goal
 
 pub returns-then-rule_word-ne0 : goal.returns-then-rule_word-ne0

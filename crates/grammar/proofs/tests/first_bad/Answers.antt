@@ -1,12 +1,7 @@
 -- `text::first_bad` finds the first line at fault by a test: those passed are not.
-use mathlib.Core.Path.{◌≡◌, refl}
-use Prim.Native.Nat.{◌-◌}
+use mathlib.Core.Path.{refl}
 use native.Mathlib.Omega.{arith}
 use borrow.Author.Rules.{rules}
-use Rattle.grammar.specs.Tests.{first}
-use Rattle.grammar.specs.Inside.Places.{lines_by}
-use Rattle.grammar.specs.Inside.LineTests.{test_of}
-use Rattle.grammar.proofs.FirstLaws.{first_at}
 use Rattle.grammar.proofs.TestOrderLaws.{seek_none, seek_here, seek_next}
 use Rattle.grammar.proofs.tests.first_bad.Goals as goal
 

@@ -1,7 +1,6 @@
 -- `text::is_bad` is the test that is asked for.
 use native.Mathlib.Omega.{arith}
 use Rattle.grammar.proofs.TestOrderLaws.{lines_before}
-use borrow.Author.Rules.{rules}
 use Rattle.grammar.proofs.tests.is_bad.Goals as goal
 
 pub bad_motif-requires : goal.bad_motif-requires

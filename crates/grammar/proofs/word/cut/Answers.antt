@@ -1,6 +1,5 @@
 -- `word::cut` gives the part that the two numbers name: cutting them to what there is changes nothing.
 use Rattle.grammar.proofs.BookLaws.{part_cut}
-use borrow.Author.Rules.{rules}
 use Rattle.grammar.proofs.word.cut.Goals as goal
 
 pub returns : goal.returns

@@ -1,13 +1,9 @@
 -- `word::expand_once` writes the word after a pass: after i turns, the words of the first i bytes are at the front.
 use mathlib.Core.Path.{refl}
-use Prim.Native.Nat.{◌-◌}
 use native.Mathlib.Omega.{arith}
-use lib.ListN.{length}
-use borrow.Author.Rules.{rules}
 use Rattle.triple.proofs.LentLaws.{count_short}
-use Rattle.grammar.specs.Books.{book_of}
 use Rattle.grammar.proofs.WordByteLaws.{enough, lacking}
-use Rattle.grammar.proofs.ExpandLaws.{Passed, passed_none, place_within, word_within, part_within, passed_next, passed_all}
+use Rattle.grammar.proofs.ExpandLaws.{passed_none, place_within, word_within, part_within, passed_next, passed_all}
 use Rattle.grammar.proofs.word.expand_once.Goals as goal
 
 pub has_room-requires : goal.has_room-requires

@@ -1,8 +1,6 @@
 -- `word::find_word` gives the book's word: after i turns, none of the first i rows has the letter.
-use mathlib.Core.Path.{◌≡◌, refl, sym, ◌∙◌}
-use Prim.Native.Nat.{◌-◌}
-use borrow.Author.Rules.{rules}
-use Rattle.grammar.proofs.BookLaws.{rows_from, row_next, found_here, found_nothing}
+use mathlib.Core.Path.{refl, sym, ◌∙◌}
+use Rattle.grammar.proofs.BookLaws.{row_next, found_here, found_nothing}
 use Rattle.grammar.proofs.word.find_word.Goals as goal
 
 pub loop-i-init : goal.loop-i-init

@@ -1,8 +1,7 @@
 -- `word::find_word` gives the book's word: after i turns, none of the first i rows has the letter.
-use mathlib.Core.Path.{◌≡◌, refl, sym, ◌∙◌}
+use mathlib.Core.Path.{◌≡◌}
 use Prim.Native.Nat.{◌-◌}
-use borrow.Author.Rules.{rules}
-use Rattle.grammar.proofs.BookLaws.{rows_from, row_next, found_here, found_nothing}
+use Rattle.grammar.proofs.BookLaws.{rows_from}
 use Rattle.grammar.proofs.word.find_word.Given as goal
 
 abbrev pub invariant-loop-i : goal.invariant-loop-i

@@ -1,10 +1,6 @@
 -- `word::has_room` compares the length after a pass with the room: what is used up and what is to come make the whole.
-use Prim.Native.Nat.{◌-◌}
 use native.Mathlib.Omega.{arith}
-use lib.ListN.{length}
-use borrow.Author.Rules.{rules}
-use Rattle.grammar.specs.Books.{book_of}
-use Rattle.grammar.proofs.ExpandLaws.{LeftOver, left_next, left_short, left_enough}
+use Rattle.grammar.proofs.ExpandLaws.{left_next, left_short, left_enough}
 use Rattle.grammar.proofs.word.has_room.Goals as goal
 
 pub loop-i-init : goal.loop-i-init

@@ -1,6 +1,5 @@
 -- `word::replacement_of` gives the way that the definition takes: by what each of the two searches found.
 use Rattle.grammar.proofs.BookLaws.{replaced_along, replaced_back, replaced_itself}
-use borrow.Author.Rules.{rules}
 use Rattle.grammar.proofs.word.replacement_of.Goals as goal
 
 pub returns-in-At : goal.returns-in-At

@@ -1,6 +1,5 @@
 -- `word::word_at` is the part that `cut` names.
 use mathlib.Core.Path.{◌∙◌}
-use borrow.Author.Rules.{rules}
 use Rattle.grammar.proofs.word.word_at.Goals as goal
 
 pub returns : goal.returns

@@ -3,7 +3,6 @@ use mathlib.Core.Path.{sym, ap, ◌∙◌}
 use lib.ListN.{length}
 use Rattle.grammar.proofs.WordByteLaws.{length_reversed}
 use Rattle.grammar.proofs.BookLaws.{word_along, word_back, word_itself}
-use borrow.Author.Rules.{rules}
 use Rattle.grammar.proofs.word.word_len.Goals as goal
 
 pub part_of-requires : goal.part_of-requires

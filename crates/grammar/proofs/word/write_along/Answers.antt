@@ -1,9 +1,8 @@
 -- `word::write_along` puts the bytes at the front: after i turns, the first i of them are there.
-use mathlib.Core.Path.{◌≡◌, refl}
-use Prim.Native.Nat.{◌-◌, ◌≤◌}
+use mathlib.Core.Path.{refl}
 use native.Mathlib.Omega.{arith}
-use lib.ListN.{length, length-set}
-use Rattle.whole.proofs.Fill.{poured, poured_more, poured_all}
+use lib.ListN.{length-set}
+use Rattle.whole.proofs.Fill.{poured_more, poured_all}
 use Rattle.grammar.proofs.word.write_along.Goals as goal
 
 pub loop-i-init : goal.loop-i-init

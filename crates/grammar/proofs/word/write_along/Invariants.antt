@@ -1,9 +1,8 @@
 -- `word::write_along` puts the bytes at the front: after i turns, the first i of them are there.
-use mathlib.Core.Path.{◌≡◌, refl}
+use mathlib.Core.Path.{◌≡◌}
 use Prim.Native.Nat.{◌-◌, ◌≤◌}
-use native.Mathlib.Omega.{arith}
-use lib.ListN.{length, length-set}
-use Rattle.whole.proofs.Fill.{poured, poured_more, poured_all}
+use lib.ListN.{length}
+use Rattle.whole.proofs.Fill.{poured}
 use Rattle.grammar.proofs.word.write_along.Given as goal
 
 abbrev pub invariant-loop-i : goal.invariant-loop-i

@@ -1,11 +1,9 @@
 -- `word::write_back` puts the reversed word at the front: after i turns, the first i bytes of it are there.
-use mathlib.Core.Path.{◌≡◌, refl, sym, ◌∙◌}
+use mathlib.Core.Path.{◌≡◌}
 use Prim.Native.Nat.{◌-◌, ◌≤◌}
-use native.Mathlib.Omega.{arith}
-use lib.ListN.{length, length-set}
-use Rattle.whole.proofs.Fill.{poured, poured_more, poured_all}
+use lib.ListN.{length}
+use Rattle.whole.proofs.Fill.{poured}
 use Rattle.grammar.specs.Words.{reversed}
-use Rattle.grammar.proofs.WordByteLaws.{length_reversed, reversed_at}
 use Rattle.grammar.proofs.word.write_back.Given as goal
 
 abbrev pub invariant-loop-i : goal.invariant-loop-i

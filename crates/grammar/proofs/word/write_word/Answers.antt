@@ -4,7 +4,6 @@ use Rattle.whole.proofs.Fill.{set_first}
 use Rattle.grammar.specs.Words.{reversed}
 use Rattle.grammar.proofs.WordByteLaws.{length_reversed}
 use Rattle.grammar.proofs.BookLaws.{word_along, word_back, word_itself, room_for, wrote}
-use borrow.Author.Rules.{rules}
 use Rattle.grammar.proofs.word.write_word.Goals as goal
 
 pub part_of-w-requires : goal.part_of-w-requires

@@ -1,0 +1,36 @@
+// Points and corner sums for callers in C and Rust.
+ghost use Rattle.std.specs.Prelude.{◌≡◌};
+ghost use Rattle.triple.specs.Lent.{status_of, after_call};
+ghost use Rattle.capi.specs.Calls.{point_call, exact_point_call, corner_call, triple_call};
+
+// The cell that a point falls in, and whether it was moved to come into bounds: x y z moved.
+#[unsafe(no_mangle)]
+pub extern "C" fn hb_point(i: f64, j: f64, resolution: u8, out: &mut [i32]) -> u8
+    ensures { (result ≡ status_of (point_call i j resolution) out.old) × (out.new ≡ after_call (point_call i j resolution) out.old) }
+{
+    capi::places::hb_point(i, j, resolution, out)
+}
+
+// The same by exact fractions: x y z moved.
+#[unsafe(no_mangle)]
+pub extern "C" fn hb_point_exact(i: f64, j: f64, resolution: u8, out: &mut [i32]) -> u8
+    ensures { (result ≡ status_of (exact_point_call i j resolution) out.old) × (out.new ≡ after_call (exact_point_call i j resolution) out.old) }
+{
+    capi::places::hb_point_exact(i, j, resolution, out)
+}
+
+// The corner sum of a triple's cell: a b.
+#[unsafe(no_mangle)]
+pub extern "C" fn hb_corner_sum(x: i32, y: i32, z: i32, out: &mut [i64]) -> u8
+    ensures { (result ≡ status_of (corner_call x y z) out.old) × (out.new ≡ after_call (corner_call x y z) out.old) }
+{
+    capi::places::hb_corner_sum(x, y, z, out)
+}
+
+// The triple whose cell has a corner sum: x y z.
+#[unsafe(no_mangle)]
+pub extern "C" fn hb_triple(a: i64, b: i64, out: &mut [i32]) -> u8
+    ensures { (result ≡ status_of (triple_call a b) out.old) × (out.new ≡ after_call (triple_call a b) out.old) }
+{
+    capi::places::hb_triple(a, b, out)
+}
