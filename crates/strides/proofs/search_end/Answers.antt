@@ -2,5 +2,5 @@
 use Rattle.strides.proofs.EntryLaws.{end_word_is}
 use Rattle.strides.proofs.search_end.Goals as goal
 
-returns : goal.returns
+pub returns : goal.returns
 returns c = end_word_is _ _ c.word.ensures

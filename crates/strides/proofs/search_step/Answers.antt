@@ -2,5 +2,5 @@
 use Rattle.strides.proofs.EntryLaws.{search_entry_is}
 use Rattle.strides.proofs.search_step.Goals as goal
 
-returns : goal.returns
-returns c = search_entry_is _ _ c.entry.ensures
+pub returns : goal.returns
+returns c = search_entry_is _ _ c.entry-e.ensures

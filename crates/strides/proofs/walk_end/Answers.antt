@@ -2,5 +2,5 @@
 use Rattle.strides.proofs.EntryLaws.{end_entry_is}
 use Rattle.strides.proofs.walk_end.Goals as goal
 
-returns : goal.returns
-returns c = end_entry_is _ _ c.entry.ensures
+pub returns : goal.returns
+returns c = end_entry_is _ _ c.entry-e.ensures

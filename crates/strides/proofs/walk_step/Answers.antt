@@ -2,5 +2,5 @@
 use Rattle.strides.proofs.EntryLaws.{walk_entry_is}
 use Rattle.strides.proofs.walk_step.Goals as goal
 
-returns : goal.returns
-returns c = walk_entry_is _ _ c.entry.ensures
+pub returns : goal.returns
+returns c = walk_entry_is _ _ c.entry-e.ensures
