@@ -32,11 +32,11 @@ past : (i : ℕ) → 656 ≤ i → 0 ≡ end_word i
 unfolding end_word search_end
 past i h = rw (le-ltb (4 * i) 2624 (omega arith), le-ltb (4 * i + 1) 2624 (omega arith), le-ltb (4 * i + 2) 2624 (omega arith), le-ltb (4 * i + 3) 2624 (omega arith))
 
-pub word-spec : {M : Type 1} → statement M
-unfolding code.routine tables_of
-word-spec {M} 𝓤 𝓛 𝓜 𝓡 =
+pub word_spec : {M : Type 1} → statement M
+unfolding tables_of
+word_spec {M} 𝓤 𝓛 𝓜 𝓡 wired =
     let world : World = record { M = M; 𝓤 = 𝓤; 𝓛 = 𝓛; 𝓜 = 𝓜; 𝓡 = 𝓡 } in
-    Written.close 0 kinds.ps kinds.r reads.Ghost reads.requires reads.ensures reads.pre_read reads.Pinned reads.Owned reads.post_read world code.env key.name code.function
-    (code.unfolded 𝓤 𝓛.H 𝓜 𝓡) (λ κs a g. tt) (λ κs. reads.owns κs world) (reads.passes world)
-    (λ g. lookup_meets w32 𝓛 (Over 𝓛 𝓜 𝓡 code.env) end_word table right reads.Pre reads.Post
+    Written.close 0 kinds.ps kinds.r reads.Ghost reads.requires reads.ensures reads.pre_read reads.Pinned reads.Owned reads.post_read world 𝓡.env key.name code.function
+    (code.unfolded 𝓤 𝓛.H 𝓜 𝓡 wired) (λ κs a g. tt) (λ κs. reads.owns κs world) (reads.passes world)
+    (λ g. lookup_meets w32 𝓛 (Over 𝓛 𝓜 𝓡 𝓡.env) end_word table right reads.Pre reads.Post
     (λ κs a. answer_is w32 end_word table right past a.0))

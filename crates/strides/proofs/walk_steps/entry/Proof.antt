@@ -34,10 +34,10 @@ unfolding walk_entry walk_step
 past i h = rw (le-ltb i 2368 h)
 
 pub entry_spec : {M : Type 1} → statement M
-unfolding code.routine tables_of
-entry_spec {M} 𝓤 𝓛 𝓜 𝓡 =
+unfolding tables_of
+entry_spec {M} 𝓤 𝓛 𝓜 𝓡 wired =
     let world : World = record { M = M; 𝓤 = 𝓤; 𝓛 = 𝓛; 𝓜 = 𝓜; 𝓡 = 𝓡 } in
-    Written.close 0 kinds.ps kinds.r reads.Ghost reads.requires reads.ensures reads.pre_read reads.Pinned reads.Owned reads.post_read world code.env key.name code.function
-    (code.unfolded 𝓤 𝓛.H 𝓜 𝓡) (λ κs a g. tt) (λ κs. reads.owns κs world) (reads.passes world)
-    (λ g. lookup_meets w16 𝓛 (Over 𝓛 𝓜 𝓡 code.env) walk_entry table right reads.Pre reads.Post
+    Written.close 0 kinds.ps kinds.r reads.Ghost reads.requires reads.ensures reads.pre_read reads.Pinned reads.Owned reads.post_read world 𝓡.env key.name code.function
+    (code.unfolded 𝓤 𝓛.H 𝓜 𝓡 wired) (λ κs a g. tt) (λ κs. reads.owns κs world) (reads.passes world)
+    (λ g. lookup_meets w16 𝓛 (Over 𝓛 𝓜 𝓡 𝓡.env) walk_entry table right reads.Pre reads.Post
     (λ κs a. answer_is w16 walk_entry table right past a.0))
