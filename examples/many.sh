@@ -16,7 +16,6 @@ if ! parallel --version 2>/dev/null </dev/null | grep -q '^GNU parallel'; then
 fi
 ./wedge </dev/null
 program=target/bin/wedge
-[ "$(uname -m)" = x86_64 ] || program=./wedge
 room=target/many
 mkdir -p "$room"
 trap 'rm -rf "$room"' EXIT
