@@ -1,0 +1,16 @@
+-- `status_without_place`: what the compiler would refuse is refused, and what it would write has no room.
+use Rattle.capi.proofs.CompileLaws.{compiling}
+use borrow.Author.Rules.{rules}
+use Rattle.capi.proofs.grammars.status_without_place.Goals as goal
+
+pub status_at-requires : goal.status_at-requires
+status_at-requires c = search (rules, compiling)
+
+pub returns-in-States : goal.returns-in-States
+returns-in-States c = search (rules, compiling)
+
+pub returns-in-Fault : goal.returns-in-Fault
+returns-in-Fault c = search (rules, compiling)
+
+pub returns-in-Refused : goal.returns-in-Refused
+returns-in-Refused c = search (rules, compiling)
