@@ -1,20 +1,21 @@
 // Answers for lines in and lines out: standard input cut into lines, of any number and any length, and
 // what is answered gathered and written in large pieces, at the latest before the next read, which may
 // wait. A read or a write that fails is said on standard error and ends the exchange; what it cut short
-// is no line. What a line asks and what it is answered is the program's, and so are the reader and the
-// writers: `from` is standard input, `to` standard output, and `said` standard error.
+// is no line. What a line asks and what it is answered is the program's, and so is the reader: `from` is
+// standard input, and `rt` writes to standard output and says what fails.
 #![tactic(auto)]
 
 ghost use Rattle.std.specs.Prelude.{◌≡◌, ◌-◌, ◌≤◌, length};
 ghost use Rattle.lines.specs.Exchanges.{is_whole, is_over, left_of, fresh, Within, Stopped};
 ghost use Rattle.lines.specs.Inside.Steps.{amid, ended, at_end, after_read, Sound};
 
-use std::io;
-use std::io::{ErrorKind, Read, Write};
+use std::io::{ErrorKind, Read};
 
+mod arguments;
 mod streams;
 
-pub use streams::{fail, write_all};
+pub use arguments::{argument, is_given};
+pub use streams::{fail, print, write_all};
 
 // Where a step of an exchange stops.
 #[derive(Clone, Copy)]
@@ -121,11 +122,10 @@ impl Exchange {
     // Goes on to the end of the next line, of the piece or of the input, whichever is first. What is
     // gathered is written before that where less than some room is left after it, and where there is a
     // new piece to be read.
-    pub fn next<R: Read, W: Write, E: Write>(
+    pub fn next<R: Read, P: Print + Eprint>(
         self,
         from: &mut R,
-        to: &mut W,
-        said: &mut E,
+        rt: &P,
         piece: &mut [u8],
         line: &mut [u8],
         out: &[u8],
@@ -135,7 +135,7 @@ impl Exchange {
         ensures stopped { Stopped piece.new result }
     {
         let begun = self.begun(piece.len(), line.len());
-        let filled = begun.filled(from, to, said, piece, out, room);
+        let filled = begun.filled(from, rt, piece, out, room);
         if filled.is_over() {
             return filled;
         }
@@ -143,8 +143,8 @@ impl Exchange {
     }
 
     // Writes what is still gathered.
-    pub fn close<W: Write, E: Write>(self, to: &mut W, said: &mut E, out: &[u8]) {
-        write(to, said, out, self.gathered);
+    pub fn close<P: Print + Eprint>(self, rt: &P, out: &[u8]) {
+        write(rt, out, self.gathered);
     }
 
     // After a whole line, a new one. A piece that does not lie within what is lent for it counts as
@@ -180,11 +180,10 @@ impl Exchange {
     }
 
     // With some room in the output, and a new piece where the last one is used up.
-    fn filled<R: Read, W: Write, E: Write>(
+    fn filled<R: Read, P: Print + Eprint>(
         self,
         from: &mut R,
-        to: &mut W,
-        said: &mut E,
+        rt: &P,
         piece: &mut [u8],
         out: &[u8],
         room: usize,
@@ -192,19 +191,19 @@ impl Exchange {
         requires { Sound (length piece.old) self.kept self.gathered self }
         ensures { Sound (length piece.old) self.kept (length out.now - room) result }
     {
-        let ready = self.ready(to, said, out, room);
+        let ready = self.ready(rt, out, room);
         if ready.is_over() {
             return ready;
         }
         if ready.at < ready.end {
             return ready;
         }
-        ready.read(from, said, piece)
+        ready.read(from, rt, piece)
     }
 
     // With what is gathered written where it leaves too little room, or where a read is next, which may
     // wait.
-    fn ready<W: Write, E: Write>(self, to: &mut W, said: &mut E, out: &[u8], room: usize) -> Self
+    fn ready<P: Print + Eprint>(self, rt: &P, out: &[u8], room: usize) -> Self
         requires { Sound self.end self.kept self.gathered self }
         ensures { Sound self.end self.kept (length out.now - room) result }
     {
@@ -216,22 +215,22 @@ impl Exchange {
                 }
             }
         }
-        self.written(to, said, out)
+        self.written(rt, out)
     }
 
     // With nothing gathered, since it is written. Where that fails, so has the exchange.
-    fn written<W: Write, E: Write>(self, to: &mut W, said: &mut E, out: &[u8]) -> Self
+    fn written<P: Print + Eprint>(self, rt: &P, out: &[u8]) -> Self
         requires { self.at ≤ self.end }
         ensures { Sound self.end self.kept 0 result }
     {
-        if write(to, said, out, self.gathered) {
+        if write(rt, out, self.gathered) {
             return Self::amid(self.at, self.end, self.kept, 0);
         }
         Self::ended(0, 0, Stop::Failed)
     }
 
     // With a new piece. A read that a signal cut short has read nothing, and the next step reads again.
-    fn read<R: Read, E: Write>(self, from: &mut R, said: &mut E, piece: &mut [u8]) -> Self
+    fn read<R: Read, P: Eprint>(self, from: &mut R, rt: &P, piece: &mut [u8]) -> Self
         requires { Sound (length piece.old) self.kept self.gathered self }
         ensures { Sound (length piece.old) self.kept self.gathered result }
     {
@@ -241,7 +240,7 @@ impl Exchange {
                 if e.kind() == ErrorKind::Interrupted {
                     return self;
                 }
-                fail(said, "standard input", e);
+                fail(rt, "standard input", e);
                 self.after_read(-1, piece)
             }
         }
@@ -313,21 +312,10 @@ fn keep(line: &mut [u8], kept: usize, b: u8) -> usize
     kept
 }
 
-// Writes so many bytes, or all there are where that is fewer, and says so where that fails; answers
-// whether it was done.
-fn write<W: Write, E: Write>(to: &mut W, said: &mut E, out: &[u8], n: usize) -> bool {
-    match put(to, out, n) {
-        Ok(()) => true,
-        Err(e) => {
-            fail(said, "standard output", e);
-            false
-        }
-    }
-}
-
-fn put<W: Write>(to: &mut W, out: &[u8], n: usize) -> io::Result<()> {
+// Writes so many bytes, or all there are where that is fewer; answers whether it was done.
+fn write<P: Print + Eprint>(rt: &P, out: &[u8], n: usize) -> bool {
     if n < out.len() {
-        return write_all(to, &out[..n]);
+        return print(rt, &out[..n]);
     }
-    write_all(to, out)
+    print(rt, out)
 }

@@ -18,13 +18,25 @@ pub fn write_all<W: Write>(to: &mut W, bytes: &[u8]) -> io::Result<()> {
     Ok(())
 }
 
+// Writes all of some bytes to standard output, and says so where that fails; answers whether it was done.
+pub fn print<P: Print + Eprint>(rt: &P, bytes: &[u8]) -> bool {
+    let mut to = io::writer(rt);
+    match write_all(&mut to, bytes) {
+        Ok(()) => true,
+        Err(e) => {
+            fail(rt, "standard output", e);
+            false
+        }
+    }
+}
+
 // Says what failed and why, in a line of its own: what it was, a colon, and the system's words for it. Where that
 // fails there is nobody to be told.
-pub fn fail<E: Write>(said: &mut E, what: &str, error: io::Error) {
+pub fn fail<E: Eprint>(rt: &E, what: &str, error: io::Error) {
     let mut text = [0u8; 128];
     let n = put_error(&mut text, error);
     let reason = reason_of(&text[..n]);
-    let _ = writeln!(said, "{what}: {reason}");
+    let _ = eprintln!(rt; "{what}: {reason}");
 }
 
 // The error as std writes it, at the front of what is lent; answers its length.
