@@ -168,6 +168,7 @@ fn stored<W: Write, P: Eprint>(walk: Walk, to: &mut W, rt: &P, out: &[u8], lines
 }
 
 // Brings what is left of a piece to its front, and answers how much that is.
+#[tactic(auto, using(crate::proofs::KeepLaws::keeping))]
 fn keep(piece: &mut [u8], from: usize, end: usize) -> usize
     requires { (from ≤ end) × (end ≤ length piece.old) }
     ensures { (result ≡ end - from) × (piece.new ≡ take (end - from) (drop from piece.old) ++ drop (end - from) piece.old) }

@@ -56,6 +56,7 @@ pub struct Walk {
 }
 
 // Mends a piece up to its limit, and tells the changes.
+#[tactic(auto, using(crate::proofs::CarryLaws::carrying))]
 pub fn walk_piece<P: Print + Eprint>(
     rt: &P,
     piece: &[u8],
