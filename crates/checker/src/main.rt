@@ -5,7 +5,9 @@
 
 ghost use Rattle.std.specs.Prelude.{◌-◌, ◌≤◌, length};
 
-use libc::{STDIN_FILENO, STDOUT_FILENO};
+use lines::{fail, print};
+use std::io;
+use std::io::{ErrorKind, Read};
 use treated::{CheckAnswer, Fault};
 
 // As many bytes as 512 codes can have, and one more: they tell the verdict, whatever comes after them
@@ -38,7 +40,7 @@ impl Piece {
 
 // Reads on, where there is room. A read that a signal cut short has read nothing, and the next one reads
 // again; one that fails is said.
-fn read_on(room: &mut [u8]) -> Piece
+fn read_on<R: Read, E: Eprint>(from: &mut R, rt: &E, room: &mut [u8]) -> Piece
     ensures { result.count ≤ length room.old }
 {
     if room.len() == 0 {
@@ -48,29 +50,27 @@ fn read_on(room: &mut [u8]) -> Piece
             failed: false,
         };
     }
-    let got = libc::read(STDIN_FILENO, room);
-    if got < 0 {
-        return after_failure();
-    }
-    let count = io::count(got, room);
-    Piece {
-        count,
-        over: count == 0,
-        failed: false,
+    match from.read(room) {
+        Ok(count) => Piece {
+            count,
+            over: count == 0,
+            failed: false,
+        },
+        Err(e) => after_failure(rt, e),
     }
 }
 
-fn after_failure() -> Piece
+fn after_failure<E: Eprint>(rt: &E, error: io::Error) -> Piece
     ensures { result.count ≤ 0 }
 {
-    if os::errno() == libc::EINTR {
+    if error.kind() == ErrorKind::Interrupted {
         return Piece {
             count: 0,
             over: false,
             failed: false,
         };
     }
-    os::fail(b"standard input");
+    fail(rt, "standard input", error);
     Piece {
         count: 0,
         over: true,
@@ -78,33 +78,39 @@ fn after_failure() -> Piece
     }
 }
 
-fn word(fault: Fault) -> bool {
+fn word<P: Print + Eprint>(rt: &P, fault: Fault) -> bool {
     match fault {
-        Fault::Unsound => io::write_all(STDOUT_FILENO, b" unsound\n"),
-        Fault::Marked => io::write_all(STDOUT_FILENO, b" marked\n"),
-        Fault::Orientation => io::write_all(STDOUT_FILENO, b" orientation\n"),
-        Fault::Overlap => io::write_all(STDOUT_FILENO, b" overlap\n"),
+        Fault::Unsound => print(rt, b" unsound\n"),
+        Fault::Marked => print(rt, b" marked\n"),
+        Fault::Orientation => print(rt, b" orientation\n"),
+        Fault::Overlap => print(rt, b" overlap\n"),
     }
 }
 
-fn number(n: u64) -> bool {
-    io::print_decimal(STDOUT_FILENO, n)
+fn number<P: Print + Eprint>(rt: &P, n: u64) -> bool {
+    match print!(rt; "{n}") {
+        Ok(()) => true,
+        Err(e) => {
+            fail(rt, "standard output", e);
+            false
+        }
+    }
 }
 
-// Whether the answer was written.
-fn say(answer: CheckAnswer) -> bool {
+// Whether the answer was written; where that fails it is said.
+fn say<P: Print + Eprint>(rt: &P, answer: CheckAnswer) -> bool {
     match answer {
-        CheckAnswer::Good(_) => io::write_all(STDOUT_FILENO, b"yes\n"),
+        CheckAnswer::Good(_) => print(rt, b"yes\n"),
         CheckAnswer::Faulty(f, n) => {
-            if number(n as u64) {
-                return word(f);
+            if number(rt, n as u64) {
+                return word(rt, f);
             }
             false
         }
         CheckAnswer::Refused(e) => {
-            if io::write_all(STDOUT_FILENO, b"! ") {
-                if number(e.number() as u64) {
-                    return io::write_all(STDOUT_FILENO, b"\n");
+            if print(rt, b"! ") {
+                if number(rt, e.number() as u64) {
+                    return print(rt, b"\n");
                 }
             }
             false
@@ -114,13 +120,14 @@ fn say(answer: CheckAnswer) -> bool {
 
 // Reads the list to its end, or as much of it as is enough, and says the verdict. The loop counts down
 // from a number that no input uses up.
-fn main() {
+fn main(rt: HostRuntime) {
+    let mut from = rt.stdin();
     let mut list = [0u8; ENOUGH];
     let mut n = 0;
     let mut failed = false;
     let mut turns = u64::MAX;
     while turns > 0 {
-        let piece = read_on(&mut list[n..]);
+        let piece = read_on(&mut from, &rt, &mut list[n..]);
         n += piece.count;
         failed = piece.failed;
         turns = piece.left(turns);
@@ -128,7 +135,5 @@ fn main() {
     if failed {
         return;
     }
-    if !say(treated::check(&list[..n])) {
-        os::fail(b"standard output");
-    }
+    say(&rt, treated::check(&list[..n]));
 }

@@ -3,33 +3,31 @@
 // corner sum; one matrix brings them onto the plane.
 ghost use Rattle.std.specs.Prelude.{◌≤◌};
 
-use libc::STDOUT_FILENO;
 use text::put::{put_bytes, put_integer, put_natural, put_next_integer};
 use triple::Triple;
 use triple::domain::position_count;
 
 // Writes what is gathered, and answers that nothing is. Where that fails it says so, and answers a place
 // past the end, where nothing has room and nothing more is written.
-fn written(out: &[u8], at: usize) -> usize {
+fn written<P: Print + Eprint>(rt: &P, out: &[u8], at: usize) -> usize {
     if at > out.len() {
         return at;
     }
-    if io::write_all(STDOUT_FILENO, &out[..at]) {
+    if lines::print(rt, &out[..at]) {
         return 0;
     }
-    os::fail(b"standard output");
     out.len() + 1
 }
 
 // With room for what is put for one cell.
-fn with_room(out: &[u8], at: usize) -> usize {
+fn with_room<P: Print + Eprint>(rt: &P, out: &[u8], at: usize) -> usize {
     if at > out.len() {
         return at;
     }
     if out.len() - at >= 128 {
         return at;
     }
-    written(out, at)
+    written(rt, out, at)
 }
 
 fn put_name(out: &mut [u8], at: usize, orientation: u8) -> usize {
@@ -217,22 +215,22 @@ fn put_middle(out: &mut [u8], at: usize, t: Triple) -> usize {
     put_next_integer(out, hanging, b - 8)
 }
 
-fn put_triangles(out: &mut [u8], at: usize, cells: &[i32]) -> usize {
+fn put_triangles<P: Print + Eprint>(rt: &P, out: &mut [u8], at: usize, cells: &[i32]) -> usize {
     let mut to = at;
     let mut i: usize = 0;
     while i < cells.len() {
-        to = with_room(out, to);
+        to = with_room(rt, out, to);
         to = put_triangle(out, to, triple_at(cells, i), flavor_at(cells, i));
         i += 4;
     }
     to
 }
 
-fn put_curve(out: &mut [u8], at: usize, cells: &[i32]) -> usize {
+fn put_curve<P: Print + Eprint>(rt: &P, out: &mut [u8], at: usize, cells: &[i32]) -> usize {
     let mut to = at;
     let mut i: usize = 0;
     while i < cells.len() {
-        to = with_room(out, to);
+        to = with_room(rt, out, to);
         to = put_middle(out, to, triple_at(cells, i));
         i += 4;
     }
@@ -240,18 +238,18 @@ fn put_curve(out: &mut [u8], at: usize, cells: &[i32]) -> usize {
 }
 
 // The whole picture.
-pub(crate) fn print(orientation: u8, passes: u8, cells: &[i32]) {
-    let mut out = io::large_buffer();
+pub(crate) fn print<P: Print + Eprint>(rt: &P, orientation: u8, passes: u8, cells: &[i32]) {
+    let mut out = [0u8; 65536];
     let rows = rows_of(passes);
     let page = put_page(&mut out, orientation, passes);
     let worded = put_legend(&mut out, page);
     let placed = put_place(&mut out, worded, rows);
-    let drawn = put_triangles(&mut out, placed, cells);
+    let drawn = put_triangles(rt, &mut out, placed, cells);
     let edged = put_edge(&mut out, drawn, rows);
     let begun = put_bytes(&mut out, edged, b"<path class=\"curve\" d=\"M");
-    let curved = put_curve(&mut out, begun, cells);
+    let curved = put_curve(rt, &mut out, begun, cells);
     let marked = put_bytes(&mut out, curved, b"\"/>\n<path class=\"first\" d=\"M");
     let first = put_middle(&mut out, marked, triple_at(cells, 0));
     let closed = put_bytes(&mut out, first, b"h0\"/>\n</g>\n</svg>\n</svg>\n");
-    written(&out, closed);
+    written(rt, &out, closed);
 }

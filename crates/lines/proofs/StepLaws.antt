@@ -2,16 +2,15 @@
 use mathlib.Core.Path.{◌≡◌, refl, sym, ap, subst, ◌∙◌}
 use mathlib.Core.Bool.{Bool, true, false, false≢true, cond}
 use mathlib.Core.List.{List}
-use Prim.Native.Nat.{ℕ, zero, suc, ◌+◌, ◌-◌, ◌≤◌, ◌<◌}
+use Prim.Native.Nat.{ℕ, zero, suc, ◌+◌, ◌-◌, ◌≤◌, ◌<◌, min}
 use native.Mathlib.Omega.{arith}
-use lib.IntN.{ℤ, pos, negsuc}
+use lib.IntN.{ℤ, pos, negsuc, nat_abs}
 use lib.ListN.{get_or}
 use lib.Signed.{lt_z}
 use borrow.Author.Tests.{ltb-true, ltb-false}
 use mir.Syntax.{w64}
 use mir.Val.{SFits, to_z, of_z}
 use mir.ValLaws.{to_z-of_z}
-use Rattle.io.specs.Counts.{clamp_len}
 use Rattle.lines.specs.declared.Stop.{Stop}
 use Rattle.lines.specs.declared.Stop.TheVariants.{Last, End, Failed}
 use Rattle.lines.specs.declared.Exchange.{Exchange}
@@ -42,7 +41,7 @@ module _ (n : ℕ) (e : Exchange) where
   negative (negsuc k) h = refl
   negative (pos k) h = let below = ltb-true k 0 h in absurd (omega arith)
 
-  positive : (got : ℤ) → lt_z (pos 0) got ≡ true → amid 0 (clamp_len got n) e.kept e.gathered ≡ after_read n got e
+  positive : (got : ℤ) → lt_z (pos 0) got ≡ true → amid 0 (min (nat_abs got) n) e.kept e.gathered ≡ after_read n got e
   unfolding after_read
   positive (pos (suc k)) h = refl
   positive (pos zero) h = absurd (false≢true h)
@@ -59,10 +58,10 @@ module _ (n : ℕ) (e : Exchange) (got : ℤ) (fits : SFits w64 got) {r : Exchan
   pub negative_read : lt_z (to_z w64 (of_z w64 got)) (pos 0) ≡ true → r ≡ ended 0 0 Failed → r ≡ after_read n got e
   negative_read h same = same ∙ negative n e got (ap (λ (z : ℤ). lt_z z (pos 0)) (sym (to_z-of_z w64 got fits)) ∙ h)
 
-  pub positive_read : {end : ℕ} → lt_z (pos 0) (to_z w64 (of_z w64 got)) ≡ true → end ≡ clamp_len (to_z w64 (of_z w64 got)) n → r ≡ amid 0 end e.kept e.gathered → r ≡ after_read n got e
+  pub positive_read : {end : ℕ} → lt_z (pos 0) (to_z w64 (of_z w64 got)) ≡ true → end ≡ min (nat_abs (to_z w64 (of_z w64 got))) n → r ≡ amid 0 end e.kept e.gathered → r ≡ after_read n got e
   positive_read h count same =
       let back = to_z-of_z w64 got fits in
-      same ∙ ap (λ (k : ℕ). amid 0 k e.kept e.gathered) (count ∙ ap (λ (z : ℤ). clamp_len z n) back)
+      same ∙ ap (λ (k : ℕ). amid 0 k e.kept e.gathered) (count ∙ ap (λ (z : ℤ). min (nat_abs z) n) back)
       ∙ positive n e got (ap (lt_z (pos 0)) (sym back) ∙ h)
 
   pub empty_read : lt_z (to_z w64 (of_z w64 got)) (pos 0) ≡ false → lt_z (pos 0) (to_z w64 (of_z w64 got)) ≡ false → r ≡ at_end e → r ≡ after_read n got e

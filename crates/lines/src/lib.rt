@@ -1,14 +1,21 @@
 // Answers for lines in and lines out: standard input cut into lines, of any number and any length, and
 // what is answered gathered and written in large pieces, at the latest before the next read, which may
 // wait. A read or a write that fails is said on standard error and ends the exchange; what it cut short
-// is no line. What a line asks and what it is answered is the program's.
+// is no line. What a line asks and what it is answered is the program's, and so is the reader: `from` is
+// standard input, and `rt` writes to standard output and says what fails.
 #![tactic(auto)]
 
 ghost use Rattle.std.specs.Prelude.{◌≡◌, ◌-◌, ◌≤◌, length};
 ghost use Rattle.lines.specs.Exchanges.{is_whole, is_over, left_of, fresh, Within, Stopped};
 ghost use Rattle.lines.specs.Inside.Steps.{amid, ended, at_end, after_read, Sound};
 
-use libc::{STDIN_FILENO, STDOUT_FILENO};
+use std::io::{ErrorKind, Read};
+
+mod arguments;
+mod streams;
+
+pub use arguments::{argument, is_given};
+pub use streams::{fail, print, write_all};
 
 // Where a step of an exchange stops.
 #[derive(Clone, Copy)]
@@ -115,11 +122,20 @@ impl Exchange {
     // Goes on to the end of the next line, of the piece or of the input, whichever is first. What is
     // gathered is written before that where less than some room is left after it, and where there is a
     // new piece to be read.
-    pub fn next(self, piece: &mut [u8], line: &mut [u8], out: &[u8], room: usize) -> Self
+    pub fn next<R: Read, P: Print + Eprint>(
+        self,
+        from: &mut R,
+        rt: &P,
+        piece: &mut [u8],
+        line: &mut [u8],
+        out: &[u8],
+        room: usize,
+    ) -> Self
         ensures within { Within (length piece.old) (length line.old) (length out.now - room) result }
         ensures stopped { Stopped piece.new result }
     {
-        let filled = self.begun(piece.len(), line.len()).filled(piece, out, room);
+        let begun = self.begun(piece.len(), line.len());
+        let filled = begun.filled(from, rt, piece, out, room);
         if filled.is_over() {
             return filled;
         }
@@ -127,8 +143,8 @@ impl Exchange {
     }
 
     // Writes what is still gathered.
-    pub fn close(self, out: &[u8]) {
-        write(out, self.gathered);
+    pub fn close<P: Print + Eprint>(self, rt: &P, out: &[u8]) {
+        write(rt, out, self.gathered);
     }
 
     // After a whole line, a new one. A piece that does not lie within what is lent for it counts as
@@ -164,23 +180,30 @@ impl Exchange {
     }
 
     // With some room in the output, and a new piece where the last one is used up.
-    fn filled(self, piece: &mut [u8], out: &[u8], room: usize) -> Self
+    fn filled<R: Read, P: Print + Eprint>(
+        self,
+        from: &mut R,
+        rt: &P,
+        piece: &mut [u8],
+        out: &[u8],
+        room: usize,
+    ) -> Self
         requires { Sound (length piece.old) self.kept self.gathered self }
         ensures { Sound (length piece.old) self.kept (length out.now - room) result }
     {
-        let ready = self.ready(out, room);
+        let ready = self.ready(rt, out, room);
         if ready.is_over() {
             return ready;
         }
         if ready.at < ready.end {
             return ready;
         }
-        ready.read(piece)
+        ready.read(from, rt, piece)
     }
 
     // With what is gathered written where it leaves too little room, or where a read is next, which may
     // wait.
-    fn ready(self, out: &[u8], room: usize) -> Self
+    fn ready<P: Print + Eprint>(self, rt: &P, out: &[u8], room: usize) -> Self
         requires { Sound self.end self.kept self.gathered self }
         ensures { Sound self.end self.kept (length out.now - room) result }
     {
@@ -192,33 +215,35 @@ impl Exchange {
                 }
             }
         }
-        self.written(out)
+        self.written(rt, out)
     }
 
     // With nothing gathered, since it is written. Where that fails, so has the exchange.
-    fn written(self, out: &[u8]) -> Self
+    fn written<P: Print + Eprint>(self, rt: &P, out: &[u8]) -> Self
         requires { self.at ≤ self.end }
         ensures { Sound self.end self.kept 0 result }
     {
-        if write(out, self.gathered) {
+        if write(rt, out, self.gathered) {
             return Self::amid(self.at, self.end, self.kept, 0);
         }
         Self::ended(0, 0, Stop::Failed)
     }
 
     // With a new piece. A read that a signal cut short has read nothing, and the next step reads again.
-    fn read(self, piece: &mut [u8]) -> Self
+    fn read<R: Read, P: Eprint>(self, from: &mut R, rt: &P, piece: &mut [u8]) -> Self
         requires { Sound (length piece.old) self.kept self.gathered self }
         ensures { Sound (length piece.old) self.kept self.gathered result }
     {
-        let got = libc::read(STDIN_FILENO, piece);
-        if got < 0 {
-            if os::errno() == libc::EINTR {
-                return self;
+        match from.read(piece) {
+            Ok(n) => self.after_read(n as isize, piece),
+            Err(e) => {
+                if e.kind() == ErrorKind::Interrupted {
+                    return self;
+                }
+                fail(rt, "standard input", e);
+                self.after_read(-1, piece)
             }
-            os::fail(b"standard input");
         }
-        self.after_read(got, piece)
     }
 
     // What a read's answer makes of it: a failure, the end of the input, or the length of a new piece.
@@ -229,7 +254,7 @@ impl Exchange {
             return Self::ended(0, 0, Stop::Failed);
         }
         if got > 0 {
-            let end = io::count(got, piece);
+            let end = (got as usize).min(piece.len());
             return Self::amid(0, end, self.kept, self.gathered);
         }
         self.at_end()
@@ -287,19 +312,10 @@ fn keep(line: &mut [u8], kept: usize, b: u8) -> usize
     kept
 }
 
-// Writes so many bytes, or all there are where that is fewer, and says so where that fails; answers
-// whether it was done. A write that a signal cut short has failed: how much of it was done is not known.
-fn write(out: &[u8], n: usize) -> bool {
-    if put(out, n) {
-        return true;
-    }
-    os::fail(b"standard output");
-    false
-}
-
-fn put(out: &[u8], n: usize) -> bool {
+// Writes so many bytes, or all there are where that is fewer; answers whether it was done.
+fn write<P: Print + Eprint>(rt: &P, out: &[u8], n: usize) -> bool {
     if n < out.len() {
-        return io::write_all(STDOUT_FILENO, &out[..n]);
+        return print(rt, &out[..n]);
     }
-    io::write_all(STDOUT_FILENO, out)
+    print(rt, out)
 }

@@ -9,7 +9,6 @@ use Rattle.triple.proofs.RefusalLaws.{never}
 use Rattle.triple.proofs.LentLaws.{whole_count, whole_stored}
 use Rattle.mend.specs.declared.Stepped.{Stepped}
 use Rattle.mend.specs.declared.StepAnswer.{StepAnswer}
-use Rattle.mend.specs.declared.StepAnswer.TheVariants as StepAnswer
 use Rattle.mend.specs.Answers.{said_step}
 use Rattle.mend.specs.Mends.{longest_code, piece_of, mend_of, step_of}
 use Rattle.mend.proofs.PieceLaws.{piece_within}

@@ -4,7 +4,9 @@ ghost use Rattle.std.specs.Prelude.{◌≡◌, ◌-◌, ◌≤◌, ◌++◌, len
 
 use crate::changes::written;
 use crate::walk::{Walk, walk_piece};
-use std::num::wrapping_add_u64;
+use lines::{fail, write_all};
+use std::io;
+use std::io::{ErrorKind, Read, Write};
 
 #[derive(Clone, Copy)]
 pub enum Stop {
@@ -38,10 +40,11 @@ impl Course {
 
     // One step on: a piece is read behind what is kept, mended, and written. A read that a signal cut short has read
     // nothing, and the next step reads again. The two slices have one length.
-    pub fn next(
+    pub fn next<R: Read, W: Write, P: Print + Eprint>(
         self,
-        from: i32,
-        to: i32,
+        from: &mut R,
+        to: &mut W,
+        rt: &P,
         piece: &mut [u8],
         out: &mut [u8],
         lines: &mut [u8],
@@ -53,18 +56,17 @@ impl Course {
         if piece.len() > out.len() {
             return self.failed();
         }
-        let got = libc::read(from, &mut piece[kept..]);
-        if got < 0 {
-            return self.unread();
+        match from.read(&mut piece[kept..]) {
+            Ok(n) => self.carried(to, rt, piece, kept + n, n == 0, out, lines),
+            Err(e) => self.unread(rt, e),
         }
-        let end = kept + io::count(got, &piece[kept..]);
-        self.carried(to, piece, end, got == 0, out, lines)
     }
 
     // With what is mended of the first bytes of a piece written, and what is left of them kept.
-    fn carried(
+    fn carried<W: Write, P: Print + Eprint>(
         self,
-        to: i32,
+        to: &mut W,
+        rt: &P,
         piece: &mut [u8],
         end: usize,
         is_last: bool,
@@ -73,9 +75,17 @@ impl Course {
     ) -> Self
         requires { (end ≤ length piece.old) × (length piece.old ≤ length out.old) }
     {
-        let walk = walk_piece(&piece[..end], is_last, out, lines, self.offset, self.told);
+        let walk = walk_piece(
+            rt,
+            &piece[..end],
+            is_last,
+            out,
+            lines,
+            self.offset,
+            self.told,
+        );
         let kept = keep(piece, walk.taken, end);
-        if !stored(walk, to, out, lines) {
+        if !stored(walk, to, rt, out, lines) {
             return self.failed();
         }
         self.after(walk, kept, is_last)
@@ -98,10 +108,10 @@ impl Course {
     }
 
     // Writes the lines that are still gathered, and answers whether all of the list is mended and told.
-    pub fn close(self, lines: &[u8]) -> bool {
+    pub fn close<P: Print + Eprint>(self, rt: &P, lines: &[u8]) -> bool {
         let stop = self.stop;
         match stop {
-            Stop::Whole => written(lines, self.told) == 0,
+            Stop::Whole => written(rt, lines, self.told) == 0,
             _ => false,
         }
     }
@@ -115,18 +125,18 @@ impl Course {
         }
     }
 
-    fn unread(self) -> Self {
-        if os::errno() == libc::EINTR {
+    fn unread<P: Eprint>(self, rt: &P, error: io::Error) -> Self {
+        if error.kind() == ErrorKind::Interrupted {
             return self;
         }
-        os::fail(b"the old list");
+        fail(rt, "the old list", error);
         self.failed()
     }
 
     fn after(self, walk: Walk, kept: usize, is_last: bool) -> Self {
         Self {
             kept,
-            offset: wrapping_add_u64(self.offset, walk.taken as u64),
+            offset: self.offset.wrapping_add(walk.taken as u64),
             told: walk.told,
             stop: stop_of(is_last),
         }
@@ -141,21 +151,24 @@ fn stop_of(is_last: bool) -> Stop {
 }
 
 // Writes what is mended of a piece; answers whether it could be, and the lines too, where some had to be.
-fn stored(walk: Walk, to: i32, out: &[u8], lines: &[u8]) -> bool
+fn stored<W: Write, P: Eprint>(walk: Walk, to: &mut W, rt: &P, out: &[u8], lines: &[u8]) -> bool
     requires { walk.written ≤ length out.now }
 {
     if walk.told > lines.len() {
         return false;
     }
     let n = walk.written;
-    if io::write_all(to, &out[..n]) {
-        return true;
+    match write_all(to, &out[..n]) {
+        Ok(()) => true,
+        Err(e) => {
+            fail(rt, "the new list", e);
+            false
+        }
     }
-    os::fail(b"the new list");
-    false
 }
 
 // Brings what is left of a piece to its front, and answers how much that is.
+#[tactic(auto, using(crate::proofs::KeepLaws::keeping))]
 fn keep(piece: &mut [u8], from: usize, end: usize) -> usize
     requires { (from ≤ end) × (end ≤ length piece.old) }
     ensures { (result ≡ end - from) × (piece.new ≡ take (end - from) (drop from piece.old) ++ drop (end - from) piece.old) }

@@ -56,7 +56,9 @@ pub struct Walk {
 }
 
 // Mends a piece up to its limit, and tells the changes.
-pub fn walk_piece(
+#[tactic(auto, using(crate::proofs::CarryLaws::carrying))]
+pub fn walk_piece<P: Print + Eprint>(
+    rt: &P,
     piece: &[u8],
     is_last: bool,
     out: &mut [u8],
@@ -74,7 +76,7 @@ pub fn walk_piece(
     while at < limit {
         let x = step(&piece[at..], &mut out[written..]);
         let change = x.change;
-        gathered = tell(lines, gathered, offset, at, change);
+        gathered = tell(rt, lines, gathered, offset, at, change);
         at += x.taken;
         written += x.written;
     }

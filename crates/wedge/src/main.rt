@@ -43,16 +43,17 @@ fn printed(answer: PrintAnswer) -> usize
 // All of standard input, or so much of it as can be read and answered. A line of more than 64 bytes is kept as 65,
 // which is as many as it takes to refuse it. The loop counts down from a number that no
 // input uses up.
-fn main() {
-    let mut piece = io::large_buffer();
+fn main(rt: HostRuntime) {
+    let mut from = rt.stdin();
+    let mut piece = [0u8; 65536];
     let mut line = [0u8; 65];
-    let mut out = io::large_buffer();
+    let mut out = [0u8; 65536];
     let mut exchange = Exchange::new();
     let mut turns = u64::MAX;
     while turns > 0 {
-        exchange = exchange.next(&mut piece, &mut line, &out, 128);
+        exchange = exchange.next(&mut from, &rt, &mut piece, &mut line, &out, 128);
         exchange = answered(exchange, &line, &mut out);
         turns = exchange.left(turns);
     }
-    exchange.close(&out);
+    exchange.close(&rt, &out);
 }

@@ -1,6 +1,5 @@
 -- The parts of a step, one after the other.
-use Rattle.std.specs.Prelude.{◌≡◌, true, List, ℕ, zero, suc, ℤ, pos, negsuc}
-use Rattle.io.specs.Counts.{clamp_len}
+use Rattle.std.specs.Prelude.{◌≡◌, true, List, ℕ, zero, suc, ℤ, pos, negsuc, min}
 use Rattle.lines.specs.declared.Stop.{Stop}
 use Rattle.lines.specs.declared.Stop.TheVariants.{Piece, Last, End, Failed}
 use Rattle.lines.specs.declared.Exchange.{Exchange}
@@ -22,6 +21,11 @@ end_of (suc n) = Last
 -- what is there at the end of the input
 unfoldable pub at_end : Exchange → Exchange
 at_end e = ended e.kept e.gathered (end_of e.kept)
+
+-- what a READ answered, brought into `0..=most`
+abbrev pub clamp_len : ℤ → ℕ → ℕ
+clamp_len (pos k) most = min k most
+clamp_len (negsuc k) most = 0
 
 -- A READ's answer: -1 where it failed, 0 at the end of the input, or how many bytes of the next piece
 unfoldable pub after_read : ℕ → ℤ → Exchange → Exchange

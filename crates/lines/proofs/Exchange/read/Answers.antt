@@ -1,0 +1,10 @@
+-- What was there is sound, and so is what a read makes of it.
+use Rattle.std.proofs.Common.{arith}
+use Rattle.lines.proofs.StepLaws.{read_sound}
+use Rattle.lines.proofs.Exchange.read.Goals as goal
+
+pub returns-in-Ok : goal.returns-in-Ok
+returns-in-Ok g c = read_sound _ _ _ _ c.after_read.ensures (omega arith)
+
+pub returns-else-eq : goal.returns-else-eq
+returns-else-eq g c = read_sound _ _ _ _ c.after_read-in-Err.ensures (omega arith)
