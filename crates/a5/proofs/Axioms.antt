@@ -149,15 +149,15 @@ module _ (n : ℕ) (t : Triple) (b : is_in_bounds (suc n) t ≡ true) where
       let vy = v_var t.y in
       let vz = v_var t.z in
       let sum_low = le_of (search view) (search view) tt h.0 in
-      let sum-high = le_of (search view) (search view) tt h.1.0 in
-      let x-high = le_of (search view) (search view) tt h.1.1.0 in
-      let z-high = le_of (search view) (search view) tt h.1.1.1.0 in
-      let y-low = le_of (search view) (search view) tt h.1.1.1.1.0 in
-      let y-high = le_of (search view) (search view) tt h.1.1.1.1.1.0 in
-      let sx : up t.x ≡ 0 = omega (arith, x-high, up_dn t.x) in
-      let sy : dn t.y ≡ 0 = omega (arith, y-low, up_dn t.y) in
-      let sz : up t.z ≡ 0 = omega (arith, z-high, up_dn t.z) in
-      record { sign_x = sx; sign_y = sy; sign_z = sz; sign_low = omega (arith, sum_low); sign_high = omega (arith, sum-high); sign_top = omega (arith, y-high, two_power n) }
+      let sum_high = le_of (search view) (search view) tt h.1.0 in
+      let x_high = le_of (search view) (search view) tt h.1.1.0 in
+      let z_high = le_of (search view) (search view) tt h.1.1.1.0 in
+      let y_low = le_of (search view) (search view) tt h.1.1.1.1.0 in
+      let y_high = le_of (search view) (search view) tt h.1.1.1.1.1.0 in
+      let sx : up t.x ≡ 0 = omega (arith, x_high, up_dn t.x) in
+      let sy : dn t.y ≡ 0 = omega (arith, y_low, up_dn t.y) in
+      let sz : up t.z ≡ 0 = omega (arith, z_high, up_dn t.z) in
+      record { sign_x = sx; sign_y = sy; sign_z = sz; sign_low = omega (arith, sum_low); sign_high = omega (arith, sum_high); sign_top = omega (arith, y_high, two_power n) }
 
   pub bounds_good : good_sum t ≡ true
   unfolding is_in_bounds

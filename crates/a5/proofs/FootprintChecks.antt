@@ -43,10 +43,10 @@ over c k f = below (c * wide_x k) (λ x. below (c * wide_y k) (λ y. below (c * 
 pub over_at : (c k : ℕ) (f : Spot → Bool) → T (over c k f) → (p : Spot) → Hold (Ends c k p) → Hold (Triangle c k p) → T (f p)
 unfolding over
 over_at c k f t p e h =
-    let at-spot : ℕ → ℕ → ℕ → Bool = λ x y g. implies (pass (Triangle c k (spot x y g))) (f (spot x y g)) in
-    let row = at (c * wide_x k) (λ x. below (c * wide_y k) (λ y. below (c * wide_g k) (at-spot x y))) t p.x e.0 in
-    let column = at (c * wide_y k) (λ y. below (c * wide_g k) (at-spot p.x y)) row p.y e.1.0 in
-    apply (pass (Triangle c k p)) (f p) (at (c * wide_g k) (at-spot p.x p.y) column p.g e.1.1.0) (passed (Triangle c k p) h)
+    let at_spot : ℕ → ℕ → ℕ → Bool = λ x y g. implies (pass (Triangle c k (spot x y g))) (f (spot x y g)) in
+    let row = at (c * wide_x k) (λ x. below (c * wide_y k) (λ y. below (c * wide_g k) (at_spot x y))) t p.x e.0 in
+    let column = at (c * wide_y k) (λ y. below (c * wide_g k) (at_spot p.x y)) row p.y e.1.0 in
+    apply (pass (Triangle c k p)) (f p) (at (c * wide_g k) (at_spot p.x p.y) column p.g e.1.1.0) (passed (Triangle c k p) h)
 
 -- ---- the child picked has the triangle, and no other has it
 abbrev pub Within : ℕ → ℕ → Spot → List Claim

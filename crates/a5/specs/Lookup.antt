@@ -3,7 +3,7 @@
 use Rattle.std.specs.Prelude.{cond, ℕ, zero, suc, ◌+◌, ◌*◌, ◌^◌, ℤ, nat_abs}
 use Rattle.std.specs.Int.Signed.{le_z}
 use Rattle.turtle.specs.declared.AB.{AB}
-use Rattle.turtle.specs.Plane.{◌⊕◌, neg, thrice, doubled, equal_aB}
+use Rattle.turtle.specs.Plane.{◌⊕◌, neg, thrice, doubled, equal_ab}
 use Rattle.tables.specs.Table.{bit}
 use Rattle.tables.specs.Descent.{child_at, offset_at, sum_at}
 use Rattle.tables.specs.Patterns.{separator_at, value_at, pattern_of, choice_at}
@@ -65,7 +65,7 @@ one_picked worth l = record { place = worth + l.place; picks = 1 + l.picks; comp
 -- n leaves from d on, compared in order with the corner sum p until one has it; the number behind the last where none has
 unfoldable pub compared : ℕ → ℕ → ℕ → AB → Looks
 compared zero k d p = at_leaf d
-compared (suc n) k d p = one_compared (cond (equal_aB p (sum_at a5_table k d)) (at_leaf d) (compared n k (suc d) p))
+compared (suc n) k d p = one_compared (cond (equal_ab p (sum_at a5_table k d)) (at_leaf d) (compared n k (suc d) p))
 
 -- THE LOOKUP of the corner sum p, from the state k that starts at v, with n levels above the leaf
 unfoldable pub lookup : ℤ → ℕ → ℕ → AB → AB → Looks

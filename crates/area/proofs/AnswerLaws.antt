@@ -231,10 +231,10 @@ module _ (o : Operation) (a b : List ℕ) (areas : Areas a b) where
 
 pub ruleset rooms = (count_walkable, room_ample, room_counted)
 
-module _ (o : Operation) (a b slice : List ℕ) {room : Bool} (room-is : room ≡ leb (length (made_of o a b)) (length slice / 2)) where
+module _ (o : Operation) (a b slice : List ℕ) {room : Bool} (room_is : room ≡ leb (length (made_of o a b)) (length slice / 2)) where
   module _ (h : not room ≡ true) where
     short : length slice < 2 * length (made_of o a b)
-    short = omega (arith, leb-false (length (made_of o a b)) (length slice / 2) (sym room-is ∙ not-true room h))
+    short = omega (arith, leb-false (length (made_of o a b)) (length slice / 2) (sym room_is ∙ not-true room h))
 
     pub short_count : refused (number_of Is.Room) ≡ valued (λ n. n / 2) (count_of (told (pairs (made_of o a b))) slice)
     short_count = ap (valued (λ n. n / 2)) (count_short (pairs (made_of o a b)) slice (length_pairs (made_of o a b)) short).0
@@ -244,14 +244,14 @@ module _ (o : Operation) (a b slice : List ℕ) {room : Bool} (room-is : room �
 
   module _ (h : not room ≡ false) where
     roomy : 2 * length (made_of o a b) ≤ length slice
-    roomy = omega (arith, leb-true (length (made_of o a b)) (length slice / 2) (sym room-is ∙ not-false room h))
+    roomy = omega (arith, leb-true (length (made_of o a b)) (length slice / 2) (sym room_is ∙ not-false room h))
 
     pub room_walkable : Areas a b → Walkable o a b true slice
     room_walkable areas = record { areas = areas; room = λ e. roomy }
 
-    module _ {n : ℕ} {out : List ℕ} (count_is : n ≡ length (made_of o a b)) (out-is : out ≡ pairs (made_of o a b) ++ drop (2 * length (made_of o a b)) slice) where
+    module _ {n : ℕ} {out : List ℕ} (count_is : n ≡ length (made_of o a b)) (out_is : out ≡ pairs (made_of o a b) ++ drop (2 * length (made_of o a b)) slice) where
       counted : Counted (told (pairs (made_of o a b))) slice (told (2 * length (made_of o a b))) out
-      counted = count_whole (pairs (made_of o a b)) slice (length_pairs (made_of o a b)) roomy out-is
+      counted = count_whole (pairs (made_of o a b)) slice (length_pairs (made_of o a b)) roomy out_is
 
       pub whole_count : told n ≡ valued (λ n. n / 2) (count_of (told (pairs (made_of o a b))) slice)
       whole_count =

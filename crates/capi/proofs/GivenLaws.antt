@@ -134,7 +134,7 @@ module _ {x y : ℤ} (fits : Fitting w32 (x ∷ y ∷ [])) where
   pub frame_made : {a b : Float} {m f : ℕ} → m ≡ clipped 13 (to_z w32 (of_z w32 x)) → f ≡ clipped 1 (to_z w32 (of_z w32 y)) → {n : Frame} → n ≡ record { motif = m; flip = f; pos_a = a; pos_b = b } → n ≡ frame_clipped x y a b
   frame_made {a} {b} h k e = (rw (h, k) at e) ∙ made_is a b
 
-  module _ {a b : Float} {f : Frame} (is_made : f ≡ made a b) {o r : ℕ} {n : Node} (is-node : n ≡ record { orientation = o; resolution = r; frame = f }) (d : ℕ)
+  module _ {a b : Float} {f : Frame} (is_made : f ≡ made a b) {o r : ℕ} {n : Node} (is_node : n ≡ record { orientation = o; resolution = r; frame = f }) (d : ℕ)
       (numbers : List ℤ) (places : List Float) {k : ℕ} {after : List ℤ} {placed : List Float} where
     pub step_called : CalledBoth (valued step_values (child_step_of n d)) numbers places k after placed → CalledBoth (step_call o r x y a b d) numbers places k after placed
-    step_called p = rw (is-node, is_made ∙ made_is a b, step_given o r a b d x y) at p
+    step_called p = rw (is_node, is_made ∙ made_is a b, step_given o r a b d x y) at p

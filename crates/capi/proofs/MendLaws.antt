@@ -35,9 +35,9 @@ module _ {A T : Type 0} (call : Told (List A)) (g : ℕ → T) (v : T → List �
         let s = stepped (count_of call first) (sym answers ∙ is) in
         let w = wrote call first s.1 in
         let q = put_known (v t) second room c in
-        let t-is : t ≡ g (length w.values) = cc (s.2, w.count) in
+        let t_is : t ≡ g (length w.values) = cc (s.2, w.count) in
         let gives : both ≡ told (w.values, v t) =
-        ap (valued (λ values. (values, v (g (length values))))) w.gave ∙ ap (λ (x : T). told (w.values, v x)) (sym t-is) in
+        ap (valued (λ values. (values, v (g (length values))))) w.gave ∙ ap (λ (x : T). told (w.values, v x)) (sym t_is) in
         let r = both_whole first second gives (omega (arith, w.room, w.count)) room in
         let stored : after ≡ w.values ++ drop (length w.values) first = leaves ∙ w.stored ∙ ap (λ (k : ℕ). w.values ++ drop k first) (sym w.count) in
         (q.0 ∙ r.0, stored ∙ r.1, q.1 ∙ r.2)

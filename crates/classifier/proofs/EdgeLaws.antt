@@ -22,14 +22,14 @@ use Rattle.classifier.specs.Inside.Sets.{kept, members_from, edge_at, edges_of}
 use Rattle.classifier.proofs.SetLaws.{next_digit, Passed}
 
 -- ---- an edge by its number
-module _ (ps : List AB) (i : ℕ) {p q : AB} {s : Separator} (p-is : p ≡ get_or ps i origin) where
+module _ (ps : List AB) (i : ℕ) {p q : AB} {s : Separator} (p_is : p ≡ get_or ps i origin) where
   pub edge_next : i + 1 < length ps → q ≡ get_or ps (i + 1) origin → s ≡ line_through p q → s ≡ edge_at ps i
   unfolding edge_at
-  edge_next h q-is e = e ∙ rw (p-is, q-is, lt-ltb (i + 1) (length ps) h) refl
+  edge_next h q_is e = e ∙ rw (p_is, q_is, lt-ltb (i + 1) (length ps) h) refl
 
   pub edge_last : length ps ≤ i + 1 → q ≡ get_or ps 0 origin → s ≡ line_through p q → s ≡ edge_at ps i
   unfolding edge_at
-  edge_last h q-is e = e ∙ rw (p-is, q-is, le-ltb (i + 1) (length ps) h) refl
+  edge_last h q_is e = e ∙ rw (p_is, q_is, le-ltb (i + 1) (length ps) h) refl
 
 module _ (home : AB) where
   edges_long : (p : AB) (qs : List AB) → length (edges_from home p qs) ≡ suc (length qs)
@@ -68,11 +68,11 @@ module _ (gs : List Polygon) (ps : List AB) {i : ℕ} (t : Sought gs ps i) where
   pub seek_end : length ps ≤ i → none ≡ first_clean gs (edges ps)
   seek_end h = ap (first_clean gs) (sym (drop_of_length-le (edges ps) {i = i} (omega (arith, edge_count ps)))) ∙ t.same
 
-  module _ (h : i < length ps) {s : Separator} (s_is : s ≡ edge_at ps i) {r : Bool} (r-is : r ≡ clean gs s) where
+  module _ (h : i < length ps) {s : Separator} (s_is : s ≡ edge_at ps i) {r : Bool} (r_is : r ≡ clean gs s) where
     here : first_clean gs (drop i (edges ps)) ≡ cond r (some s) (first_clean gs (drop (i + 1) (edges ps)))
     here =
         let from : drop i (edges ps) ≡ s ∷ drop (i + 1) (edges ps) = drop-cons (edges ps) i no_separator (omega (arith, edge_count ps)) ∙ rw (edge_at_lem ps i h, s_is, add-one) refl in
-        rw (from, r-is) refl
+        rw (from, r_is) refl
 
     pub seek_found : r ≡ true → some s ≡ first_clean gs (edges ps)
     seek_found e =
@@ -131,22 +131,22 @@ empty_is : (gs : List Polygon) → is_empty gs ≡ eqb (length gs) 0
 empty_is [] = refl
 empty_is (g ∷ gs) = sym (ne_eqb (suc (length gs)) 0 (λ e. let z : ⊥ = omega arith in z))
 
-module _ (s : Separator) (all : List Polygon) {over under : List Polygon} (over_is : over ≡ polygons_on true s all) (under-is : under ≡ polygons_on false s all) where
+module _ (s : Separator) (all : List Polygon) {over under : List Polygon} (over_is : over ≡ polygons_on true s all) (under_is : under ≡ polygons_on false s all) where
   parts : (all_under s under && not (eqb (length over) 0)) && not (eqb (length under) 0) ≡ clean all s
   parts =
-      rw (sym (empty_is over), sym (empty_is under), over_is, under-is) refl
+      rw (sym (empty_is over), sym (empty_is under), over_is, under_is) refl
 
-  module _ {r : Bool} (r-is : r ≡ all_under s under) where
+  module _ {r : Bool} (r_is : r ≡ all_under s under) where
     pub clean_off : r ≡ false → false ≡ clean all s
-    clean_off e = let z : (all_under s under && not (eqb (length over) 0)) && not (eqb (length under) 0) ≡ false = rw (sym r-is, e) refl in sym z ∙ parts
+    clean_off e = let z : (all_under s under && not (eqb (length over) 0)) && not (eqb (length under) 0) ≡ false = rw (sym r_is, e) refl in sym z ∙ parts
 
     module _ {n : ℕ} (n_is : n ≡ length over) where
       pub clean_none : r ≡ true → n ≡ 0 → false ≡ clean all s
       clean_none e k =
-          let z : (all_under s under && not (eqb (length over) 0)) && not (eqb (length under) 0) ≡ false = rw (sym r-is, e, eq-eqb (length over) 0 (sym n_is ∙ k)) refl in
+          let z : (all_under s under && not (eqb (length over) 0)) && not (eqb (length under) 0) ≡ false = rw (sym r_is, e, eq-eqb (length over) 0 (sym n_is ∙ k)) refl in
           sym z ∙ parts
 
       pub clean_some : {m : ℕ} → r ≡ true → (n ≡ 0 → ⊥) → m ≡ length under → not (eqb m 0) ≡ clean all s
-      clean_some {m} e k m-is =
-          let z : (all_under s under && not (eqb (length over) 0)) && not (eqb (length under) 0) ≡ not (eqb m 0) = rw (sym r-is, e, ne_eqb (length over) 0 (λ q. k (n_is ∙ q)), sym m-is) refl in
+      clean_some {m} e k m_is =
+          let z : (all_under s under && not (eqb (length over) 0)) && not (eqb (length under) 0) ≡ not (eqb m 0) = rw (sym r_is, e, ne_eqb (length over) 0 (λ q. k (n_is ∙ q)), sym m_is) refl in
           sym z ∙ parts

@@ -71,11 +71,11 @@ module _ {s : Separator} {lines : List Separator} {n i : ℕ} (t : Indexed s lin
       let none : drop i (take n lines) ≡ [] = drop_of_length-le (take n lines) {i = i} (omega (arith, t.long)) in
       sym (t.same ∙ rw none (omega arith))
 
-  module _ (d : Separator) (h : i < n) {r : Bool} (r-is : r ≡ same_separator (get_or lines i d) s) where
+  module _ (d : Separator) (h : i < n) {r : Bool} (r_is : r ≡ same_separator (get_or lines i d) s) where
     here : separator_index (drop i (take n lines)) s ≡ cond r 0 (suc (separator_index (drop (i + 1) (take n lines)) s))
     here =
         let from : drop i (take n lines) ≡ get_or lines i d ∷ drop (i + 1) (take n lines) = drop-cons (take n lines) i d (omega (arith, t.long)) ∙ rw (get_or-take n lines i d h, add-one) refl in
-        rw (from, r-is) refl
+        rw (from, r_is) refl
 
     pub index_found : r ≡ true → i ≡ separator_index (take n lines) s
     index_found e =
@@ -102,7 +102,7 @@ three_put (a ∷ []) s h = refl
 three_put (a ∷ (b ∷ [])) s h = refl
 three_put (a ∷ (b ∷ (c ∷ ss))) s h = absurd (many (length ss) h)
 
-module _ {g : Gathered} (k : Kept g) (s : Separator) {i : ℕ} (i-is : i ≡ separator_index (gathered_lines g) s) where
+module _ {g : Gathered} (k : Kept g) (s : Separator) {i : ℕ} (i_is : i ≡ separator_index (gathered_lines g) s) where
   pub add_there : i < g.count → g ≡ gathered_by (with_separator (gathered_lines g) s) g.whole
   add_there h =
       let there : with_separator (gathered_lines g) s ≡ gathered_lines g = rw (lt-ltb (separator_index (gathered_lines g) s) (length (gathered_lines g)) (omega (arith, kept_count k))) refl in
@@ -170,31 +170,31 @@ nothing_of gs e f = ap found_line (sym f) ∙ e
 pub add_room : (gs : List Polygon) {g : Gathered} → Kept g × (g.count + length gs ≤ 4) → 2 ≤ length gs → Kept g × (g.count < 3)
 add_room gs p two = (p.0, omega (arith, p.1))
 
-module _ {gs : List Polygon} {s : Separator} {g more : Gathered} {a : List Polygon} (f : Splitting gs s g) (more-is : more ≡ gathered_by (with_separator (gathered_lines g) s) g.whole) (a-is : a ≡ polygons_on true s gs) where
+module _ {gs : List Polygon} {s : Separator} {g more : Gathered} {a : List Polygon} (f : Splitting gs s g) (more_is : more ≡ gathered_by (with_separator (gathered_lines g) s) g.whole) (a_is : a ≡ polygons_on true s gs) where
   d : Sides gs (polygons_on true s gs) (polygons_on false s gs)
   d = sides (all_edges gs) f.found
 
   pub first_less : length a < length gs
-  first_less = rw a-is (omega (arith, d.sum, d.second))
+  first_less = rw a_is (omega (arith, d.sum, d.second))
 
   first_some : 0 < length a
-  first_some = rw a-is d.first
+  first_some = rw a_is d.first
 
   more_few : length (with_separator (gathered_lines g) s) ≤ 3
   more_few = omega (arith, added_long (gathered_lines g) s, kept_count f.kept, f.room, f.two)
 
   pub first_room : Kept more × (more.count + length a ≤ 4)
   first_room =
-      (kept_by (with_separator (gathered_lines g) s) more-is more_few, omega (arith, ap (λ (g : Gathered). g.count) more-is, added_long (gathered_lines g) s, kept_count f.kept, first_less, f.room))
+      (kept_by (with_separator (gathered_lines g) s) more_is more_few, omega (arith, ap (λ (g : Gathered). g.count) more_is, added_long (gathered_lines g) s, kept_count f.kept, first_less, f.room))
 
   module _ {over : Gathered} {b : List Polygon} (over_by : Through a more over) (b_is : b ≡ polygons_on false s gs) where
     sizes : length a + length b ≡ length gs
-    sizes = rw (a-is, b_is) d.sum
+    sizes = rw (a_is, b_is) d.sum
 
     over_is : (n : ℕ) → length gs ≤ suc (suc n) → over ≡ gathered_by (collected (with_separator (gathered_lines g) s) (tree_of n a)) (g.whole && whole (tree_of n a))
     over_is n h =
         over_by.by n (omega (arith, first_less))
-        ∙ ap₂ (λ (ss : List Separator) (w : Bool). gathered_by (collected ss (tree_of n a)) (w && whole (tree_of n a))) (lines_are (with_separator (gathered_lines g) s) more-is more_few) (whole_is (with_separator (gathered_lines g) s) more-is more_few)
+        ∙ ap₂ (λ (ss : List Separator) (w : Bool). gathered_by (collected ss (tree_of n a)) (w && whole (tree_of n a))) (lines_are (with_separator (gathered_lines g) s) more_is more_few) (whole_is (with_separator (gathered_lines g) s) more_is more_few)
 
     over_few : (n : ℕ) → suc (length (collected (with_separator (gathered_lines g) s) (tree_of n a))) ≤ suc (length (gathered_lines g)) + length a
     over_few n = omega (arith, lines_few n a (with_separator (gathered_lines g) s) first_some, added_long (gathered_lines g) s)
@@ -217,7 +217,7 @@ module _ {gs : List Polygon} {s : Separator} {g more : Gathered} {a : List Polyg
         go (suc n) h =
             let e = over_is n h in
             let short : length (collected (with_separator (gathered_lines g) s) (tree_of n a)) ≤ 3 = omega (arith, over_few n, kept_count f.kept, first_less, f.room) in
-            let t : tree_of (suc n) gs ≡ split s (tree_of n a) (tree_of n b) = rw (a-is, b_is) (tree_split n gs f.two f.found) in
+            let t : tree_of (suc n) gs ≡ split s (tree_of n a) (tree_of n b) = rw (a_is, b_is) (tree_split n gs f.two f.found) in
             by-b.by n (omega (arith, second_less))
             ∙ ap₂ (λ (ss : List Separator) (w : Bool). gathered_by (collected ss (tree_of n b)) (w && whole (tree_of n b))) (lines_are (collected (with_separator (gathered_lines g) s) (tree_of n a)) e short) (whole_is (collected (with_separator (gathered_lines g) s) (tree_of n a)) e short)
             ∙ rw t (ap (gathered_by (collected (collected (with_separator (gathered_lines g) s) (tree_of n a)) (tree_of n b))) (in_turn g.whole (whole (tree_of n a)) (whole (tree_of n b))))
@@ -236,14 +236,14 @@ module _ {gs : List Polygon} {ss : List Separator} {pattern : ℕ} where
   unfolding choice
   led_only h e = record { by = λ n k. e ∙ rw (tree_only n gs h) refl }
 
-module _ (gs : List Polygon) {s : Separator} (ss : List Separator) (pattern : ℕ) (two : 2 ≤ length gs) (found : some s ≡ first_clean gs (all_edges gs)) {i : ℕ} (i-is : i ≡ separator_index ss s) {above : Bool}
-    (above-is : above ≡ eqb (pattern / 2 ^ i % 2) 1) {a : List Polygon} (a-is : a ≡ polygons_on above s gs) where
+module _ (gs : List Polygon) {s : Separator} (ss : List Separator) (pattern : ℕ) (two : 2 ≤ length gs) (found : some s ≡ first_clean gs (all_edges gs)) {i : ℕ} (i_is : i ≡ separator_index ss s) {above : Bool}
+    (above_is : above ≡ eqb (pattern / 2 ^ i % 2) 1) {a : List Polygon} (a_is : a ≡ polygons_on above s gs) where
   short : (b : Bool) → length (polygons_on b s gs) < length gs
   short true = let d = sides (all_edges gs) found in omega (arith, d.sum, d.second)
   short false = let d = sides (all_edges gs) found in omega (arith, d.sum, d.first)
 
   pub led_less : length a < length gs
-  led_less = rw a-is (short above)
+  led_less = rw a_is (short above)
 
   pub led_split : {d : ℕ} → Led a ss pattern d → Led gs ss pattern d
   unfolding choice
@@ -255,18 +255,18 @@ module _ (gs : List Polygon) {s : Separator} (ss : List Separator) (pattern : �
 
       go : (n : ℕ) → length gs ≤ suc n → d ≡ choice ss pattern (tree_of n gs)
       go zero h = let z : ⊥ = omega (arith, two) in absurd z
-      go (suc n) h = l.by n (omega (arith, led_less)) ∙ (rw (a-is, tree_split n gs two found, sym i-is, sym above-is) (turn above n))
+      go (suc n) h = l.by n (omega (arith, led_less)) ∙ (rw (a_is, tree_split n gs two found, sym i_is, sym above_is) (turn above n))
 
 -- ---- the classifier of four children
 pub start_room : (ps : List Polygon) {no : Gathered} → length ps ≡ 4 → no ≡ gathered_by [] true → Kept no × (no.count + length ps ≤ 4)
 start_room ps four e = (kept_by [] e (omega arith), omega (arith, ap (λ (g : Gathered). g.count) e))
 
-module _ (ps : List Polygon) (four : length ps ≡ 4) {no found : Gathered} (no-is : no ≡ gathered_by [] true) (t : Through ps no found) where
+module _ (ps : List Polygon) (four : length ps ≡ 4) {no found : Gathered} (no_is : no ≡ gathered_by [] true) (t : Through ps no found) where
   found_is : found ≡ gathered_by (separators (tree_of 3 ps)) (whole (tree_of 3 ps))
   unfolding separators
   found_is =
       t.by 3 (omega arith)
-      ∙ ap₂ (λ (ss : List Separator) (w : Bool). gathered_by (collected ss (tree_of 3 ps)) (w && whole (tree_of 3 ps))) (lines_are [] no-is (omega arith)) (whole_is [] no-is (omega arith))
+      ∙ ap₂ (λ (ss : List Separator) (w : Bool). gathered_by (collected ss (tree_of 3 ps)) (w && whole (tree_of 3 ps))) (lines_are [] no_is (omega arith)) (whole_is [] no_is (omega arith))
 
   three : length (separators (tree_of 3 ps)) ≤ 3
   unfolding separators

@@ -102,9 +102,9 @@ module _ (f : List AB → Bool) (t : AB → Bool) (cons : (p : AB) (ps : List AB
   pub test_end : f [] ≡ true → length ps ≤ i → true ≡ f ps
   test_end e h = sym e ∙ ap f (sym (drop_of_length-le ps {i = i} h)) ∙ s.same
 
-  module _ (h : i < length ps) {p : AB} (p-is : p ≡ get_or ps i origin) where
+  module _ (h : i < length ps) {p : AB} (p_is : p ≡ get_or ps i origin) where
     head : f (drop i ps) ≡ t p && f (drop (i + 1) ps)
-    head = rw (p-is, add-one) (ap f (drop-cons ps i origin h) ∙ cons (get_or ps i origin) (drop (suc i) ps))
+    head = rw (p_is, add-one) (ap f (drop-cons ps i origin h) ∙ cons (get_or ps i origin) (drop (suc i) ps))
 
     pub test_no : (T (t p) → ⊥) → false ≡ f ps
     test_no k = no (t p) (f (drop (i + 1) ps)) k ∙ sym head ∙ s.same

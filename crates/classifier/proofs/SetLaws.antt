@@ -146,9 +146,9 @@ pub pass_end : {A : Type 0} (f : List Polygon → A) {gs : List Placed} {has : L
 pass_end f {gs} {has} s h = ap f (sym (no_digit gs has h)) ∙ s.same
 
 module _ (s : Separator) (gs : List Placed) {has : List Bool} {d : ℕ} (p : Passed (all_under s) gs has d) (h : d < 4) {r : Bool}
-    (r-is : r ≡ get_or has d false && not (under s (placed_corners (get_or gs d no_placed)))) where
+    (r_is : r ≡ get_or has d false && not (under s (placed_corners (get_or gs d no_placed)))) where
   head : all_under s (kept (get_or has d false) (polygon_of gs d) (members_from gs has (4 - (d + 1)) (d + 1))) ≡ not r && all_under s (members_from gs has (4 - (d + 1)) (d + 1))
-  head = rw r-is (go (get_or has d false) (polygon_of gs d) (members_from gs has (4 - (d + 1)) (d + 1)))
+  head = rw r_is (go (get_or has d false) (polygon_of gs d) (members_from gs has (4 - (d + 1)) (d + 1)))
     where
       flag : (u v : Bool) → u && v ≡ not (not u) && v
       flag true v = refl

@@ -106,17 +106,17 @@ module _ (bytes : List ℕ) where
     unfolding from_first
     read_outside m = out_of_domain (get_or bytes 0 0 / 32) (get_or bytes 0 0 % 32) a ea _ m ∙ read_first bytes some (small 0).fits
 
-    module _ (m : a ≡ DomainAnswer.In) {used : ℕ} (length-is : used ≡ code_length (get_or bytes 0 0 % 32)) where
+    module _ (m : a ≡ DomainAnswer.In) {used : ℕ} (length_is : used ≡ code_length (get_or bytes 0 0 % 32)) where
       pub read_cut : length bytes < used → refused (number_of Is.Code) ≡ loose_of bytes
       unfolding from_first
-      read_cut l = simp (lt-ltb _ _ (rw length-is at l)) (in_domain_lem (get_or bytes 0 0 / 32) (get_or bytes 0 0 % 32) a ea m _) ∙ read_first bytes some (small 0).fits
+      read_cut l = simp (lt-ltb _ _ (rw length_is at l)) (in_domain_lem (get_or bytes 0 0 / 32) (get_or bytes 0 0 % 32) a ea m _) ∙ read_first bytes some (small 0).fits
 
       pub read_whole : used ≤ length bytes → {v spare : ℕ} → v ≡ value_of (all_bits (take (used - 1) (drop 1 bytes))) → spare ≡ spare_bits (get_or bytes 0 0 % 32)
           → {x : Reading} → x ≡ reading_of (get_or bytes 0 0 / 32) (get_or bytes 0 0 % 32) (v / 2 ^ spare) → told x ≡ loose_of bytes
       unfolding from_first
       read_whole l e f x_is =
-          ap told (x_is ∙ ap (reading_of (get_or bytes 0 0 / 32) (get_or bytes 0 0 % 32)) (position_at (get_or bytes 0 0 % 32) bytes used length-is l _ _ e f))
-          ∙ simp (le-ltb _ _ (rw length-is at l)) (in_domain_lem (get_or bytes 0 0 / 32) (get_or bytes 0 0 % 32) a ea m _)
+          ap told (x_is ∙ ap (reading_of (get_or bytes 0 0 / 32) (get_or bytes 0 0 % 32)) (position_at (get_or bytes 0 0 % 32) bytes used length_is l _ _ e f))
+          ∙ simp (le-ltb _ _ (rw length_is at l)) (in_domain_lem (get_or bytes 0 0 / 32) (get_or bytes 0 0 % 32) a ea m _)
           ∙ read_first bytes some (small 0).fits
 
 pub ruleset reading = (shallow, oriented, after_first, few_bytes, read_empty, read_outside, read_cut, read_whole)

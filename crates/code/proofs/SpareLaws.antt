@@ -45,9 +45,9 @@ spare_last r bytes long =
     rw (spare_is r, laid, drop_at own (bits_of k b ++ all_bits back) (8 + 2 * r) size) (sym (value_front k b (all_bits back)))
 
 -- with the counts that the code has worked out
-module _ (r : ℕ) {k : ℕ} (k-is : k ≡ spare_bits r) where
+module _ (r : ℕ) {k : ℕ} (k_is : k ≡ spare_bits r) where
   size_fits : 1 * 2 ^ k % 2 ^ 8 ≡ 2 ^ spare_bits r
-  size_fits = rw k-is (shl_exact 1 (spare_bits r) 8 (lit< tt) (omega arith) ∙ one-mul (2 ^ spare_bits r))
+  size_fits = rw k_is (shl_exact 1 (spare_bits r) 8 (lit< tt) (omega arith) ∙ one-mul (2 ^ spare_bits r))
 
   pub some_size : 0 < 1 * 2 ^ k % 2 ^ 8
   some_size = rw size_fits (pow_pos (spare_bits r))

@@ -29,7 +29,7 @@ pub record Put (code buffer : List ℕ) (k : ℕ) (out : List ℕ) : Type 0 wher
 pub put_none : (code buffer : List ℕ) → Put code buffer 0 buffer
 put_none code buffer = record { same_length = refl; poured_so = refl }
 
-module _ (o r s : ℕ) {buffer out : List ℕ} {used k : ℕ} (length-is : used ≡ code_length r) (p : Put (code_bytes o r s) buffer k out) where
+module _ (o r s : ℕ) {buffer out : List ℕ} {used k : ℕ} (length_is : used ≡ code_length r) (p : Put (code_bytes o r s) buffer k out) where
   pub put_more : code_length r ≤ length buffer → k < used → {b : ℕ} → b ≡ get_or (code_bytes o r s) k 0 → Put (code_bytes o r s) buffer (k + 1) (set out k b)
   put_more room h e =
       let long = length_code o r s in
@@ -89,9 +89,9 @@ module _ (o r s : ℕ) (buffer : List ℕ) where
           unfolding code_of
           given = simp (written, lt-leb (4 ^ r) s (rw positions at named)) (in_domain_lem o r a ea m _)
 
-          module _ {used : ℕ} (length-is : used ≡ code_length r) where
+          module _ {used : ℕ} (length_is : used ≡ code_length r) where
             long : length (code_bytes o r s) ≡ used
-            long = length_code o r s ∙ sym length-is
+            long = length_code o r s ∙ sym length_is
 
             pub short_refused : length buffer < used → refused (number_of Is.Room) ≡ count_of (code_of o r s) buffer
             short_refused = short_count buffer given long
@@ -103,7 +103,7 @@ module _ (o r s : ℕ) (buffer : List ℕ) where
             whole_told = whole_count buffer given long
 
             pub whole_left : used ≤ length buffer → {out : List ℕ} → out ≡ code_bytes o r s ++ drop (code_length r) buffer → out ≡ after_call (code_of o r s) buffer
-            whole_left room e = whole_stored buffer given long room (rw length-is e)
+            whole_left room e = whole_stored buffer given long room (rw length_is e)
 
     pub position_named : a ≡ DomainAnswer.In → {count : ℕ} → count ≡ position_count r → s < count → s < 4 ^ r
     position_named m count_is named = rw (positions_are r (shallow o r a ea m) count_is) at named

@@ -178,14 +178,14 @@ part_rest (fin s m e) p of =
 
 parts_exact : (i j : Float) (p q : Part) → PartOf i p → PartOf j q → parts_reach p q ≡ rests_reach i j
 unfolding parts_reach
-parts_exact i j p q of-i of-j =
+parts_exact i j p q of_i of_j =
     sym
     (reach_scale (rest i) (den i) (rest_at p.negative p.digits (2 ^ p.places)) (2 ^ p.places) (rest j) (den j) (rest_at q.negative q.digits (2 ^ q.places)) (2 ^ q.places)
-    (den_pos i) (den_pos j) (pow_pos p.places) (pow_pos q.places) (part_rest i p of-i) (part_rest j q of-j))
+    (den_pos i) (den_pos j) (pow_pos p.places) (pow_pos q.places) (part_rest i p of_i) (part_rest j q of_j))
 
-module _ (i j : Float) {p q : Part} (of-i : PartOf i p) (of-j : PartOf j q) {b : Bool} (e : b ≡ parts_reach p q) where
+module _ (i j : Float) {p q : Part} (of_i : PartOf i p) (of_j : PartOf j q) {b : Bool} (e : b ≡ parts_reach p q) where
   told_by : {c : Bool} → b ≡ c → flag c ≡ exact_parity i j
-  told_by {c} h = ap flag (sym h ∙ e ∙ parts_exact i j p q of-i of-j) ∙ sym (exact_rests i j)
+  told_by {c} h = ap flag (sym h ∙ e ∙ parts_exact i j p q of_i of_j) ∙ sym (exact_rests i j)
 
   pub exact_one : b ≡ true → 1 ≡ exact_parity i j
   exact_one = told_by

@@ -144,8 +144,8 @@ module _ (exact : Bool) (i j : Float) where
   unfolding parity
   told_rounded t both m n f g a b e =
       let f_is = fraction_is i (near_first i j both) m a in
-      let g-is = fraction_is j (near_second i j both) n b in
-      rw t (e ∙ λ k. cond (le one (add binary64 (f_is k) (g-is k))) 1 0)
+      let g_is = fraction_is j (near_second i j both) n b in
+      rw t (e ∙ λ k. cond (le one (add binary64 (f_is k) (g_is k))) 1 0)
 
 pub ruleset telling = (near_first, near_second, floor_small, told_exactly, told_rounded)
 
@@ -220,9 +220,9 @@ pub rounded_is : (exact : Bool) (i j : Float) (last : ℕ) → (near i && near j
 rounded_is exact i j last both y z m n p e moved is =
     let ni = near_first i j both in
     let nj = near_second i j both in
-    let triple-same = e ∙ λ k. settled last (clamped_is i ni y m k) (clamped_is j nj z n k) (p k) in
-    let Moved-same = moved ∙ λ k. is_moved last (floor_read i ni y k) (floor_read j nj z k) (p k) in
-    is ∙ λ k. record { triple = triple-same k; moved = Moved-same k }
+    let triple_same = e ∙ λ k. settled last (clamped_is i ni y m k) (clamped_is j nj z n k) (p k) in
+    let Moved_same = moved ∙ λ k. is_moved last (floor_read i ni y k) (floor_read j nj z k) (p k) in
+    is ∙ λ k. record { triple = triple_same k; moved = Moved_same k }
 
 pub ruleset rounding = (near_first, near_second, floor_read, floor_small, clamped_not_negative, clamped_fits, clamped_small, told_small, rounded_is)
 
@@ -257,9 +257,9 @@ cornered_in_bounds r m n p h l =
     let z_most = le_by z (v_pos 0) tt (omega arith) in
     let y_least = le_by (v_pos 0) y tt (omega arith) in
     let y_most = le_by y (v_pos (2 ^ r - 1)) tt (omega arith) in
-    let x-least = le_by (v_add sum (v_neg y)) x tt (omega arith) in
-    let z-least = le_by (v_add sum (v_neg y)) z tt (omega arith) in
-    sym (true_pass (bounds r (cornered m n p)) (sum_least, (sum_most, (x_most, (z_most, (y_least, (y_most, (x-least, (z-least, tt)))))))))
+    let x_least = le_by (v_add sum (v_neg y)) x tt (omega arith) in
+    let z_least = le_by (v_add sum (v_neg y)) z tt (omega arith) in
+    sym (true_pass (bounds r (cornered m n p)) (sum_least, (sum_most, (x_most, (z_most, (y_least, (y_most, (x_least, (z_least, tt)))))))))
 
 pub settled_in_bounds : (r m n p : ℕ) → p ≤ 1 → is_in_bounds r (settled (2 ^ r - 1) m n p) ≡ true
 settled_in_bounds r m n p l = elim (dec_lt (2 ^ r - 1) (m + n + p)) [

@@ -78,8 +78,8 @@ below_whole : (m : ℕ) (e : ℤ) (r : ℕ) → 0 < r → (q : ℕ) → q * down
     → sub binary64 (fin true m e) (of_int binary64 (neg_ℤ (pos q))) ≡ round binary64 false r (down e)
 below_whole m e r R zero h l = let z : 0 * down e ≡ 0 = zero-mul (down e) in absurd (omega arith)
 below_whole m e r R (suc k) h l =
-    let k-is : suc k * down e - m * up e ≡ r = omega arith in
-    sub_high m e (of_int binary64 (negsuc k)) (suc k) (int_value (negsuc k) (omega arith)) (omega arith) ∙ ap (λ (z : ℕ). round binary64 false z (down e)) k-is
+    let k_is : suc k * down e - m * up e ≡ r = omega arith in
+    sub_high m e (of_int binary64 (negsuc k)) (suc k) (int_value (negsuc k) (omega arith)) (omega arith) ∙ ap (λ (z : ℕ). round binary64 false z (down e)) k_is
 
 fraction_is : (x : Float) → near x ≡ true → 0 < rest x → fraction x ≡ round binary64 false (rest x) (den x)
 unfolding fraction floor

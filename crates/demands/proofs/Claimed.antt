@@ -8,7 +8,7 @@ use borrow.Author.Tests.{le-leb, eq-eqb, leb-true, eqb-true}
 use Rattle.code.specs.declared.Reading.{Reading}
 use Rattle.treated.specs.Treated.{contains}
 use Rattle.treated.specs.Claims.{Claims}
-use Rattle.treated.proofs.Examples.{good-examples}
+use Rattle.treated.proofs.Examples.{good_examples}
 use Rattle.treated.proofs.Claimed.{good_exactly, long_exactly, fault_exactly, first_fault, twice_contains}
 use Rattle.demands.specs.TreatedLists.{Contains, TreatedLists}
 
@@ -30,7 +30,7 @@ overlap x y hx hy =
 pub treated_lists : TreatedLists
 treated_lists = record {
   each = λ list. record { yes = good_exactly list; named = fault_exactly list; first = first_fault list; long = long_exactly list };
-  empty = good-examples.0;
+  empty = good_examples.0;
   ground = λ x p h. ((λ e. (h, e)), λ c. c.1);
   overlap = overlap;
 }

@@ -14,7 +14,7 @@ use Rattle.curve.specs.Points.{near, point_by, point_of, parity}
 use Rattle.curve.specs.ExactPoints.{exact_parity, exact_point_of}
 use Rattle.curve.proofs.TwoParities.{differ}
 use Rattle.curve.proofs.ExactLaws.{exact_is, exact_in_bounds, exact_moved, exact_unmoved, exact_holds}
-use Rattle.curve.proofs.Examples.{left-of-the-edge}
+use Rattle.curve.proofs.Examples.{left_of_the_edge}
 use Rattle.demands.specs.Demands.{ExactPoints}
 use Rattle.demands.proofs.ToldLaws.{told_refused}
 
@@ -40,6 +40,6 @@ exact_points = record {
   moved = exact_moved;
   unmoved = exact_unmoved;
   lies_in = exact_holds;
-  edge_rounded = left-of-the-edge.0;
-  edge_exact = left-of-the-edge.1;
+  edge_rounded = left_of_the_edge.0;
+  edge_exact = left_of_the_edge.1;
 }

@@ -8,7 +8,7 @@ use Rattle.triple.specs.Refusals.{refused, number_of}
 use Rattle.triple.specs.Orientations.{is_backward, place_from, curve_place}
 use Rattle.triple.specs.Triples.{color_of, closed_flavor}
 use Rattle.lsystem.specs.Cells.{cell_at, cell_of}
-use Rattle.lsystem.proofs.Examples.{cell-examples, corner_examples}
+use Rattle.lsystem.proofs.Examples.{cell_examples, corner_examples}
 use Rattle.tables.proofs.Examples.{no_split}
 use Rattle.tables.specs.Compiler.{compiled_in}
 use Rattle.tables.specs.Descent.{entry}
@@ -17,8 +17,8 @@ use Rattle.a5.specs.Inside.Footprints.{before_x, before_y, before_g, begins, at_
 use Rattle.a5.specs.Inside.Spots.{moved, leaf, walk, triple_at}
 use Rattle.a5.proofs.Once.{cell_triple}
 use Rattle.lsystem.proofs.CellLaws.{axiom_in, cell_at_lem}
-use Rattle.curve.proofs.Examples.{point-examples}
-use Rattle.code.proofs.Examples.{code-examples}
+use Rattle.curve.proofs.Examples.{point_examples}
+use Rattle.code.proofs.Examples.{code_examples}
 use Rattle.demands.specs.Dozen.{Dozen, cell}
 
 last : 4 ^ 30 - 1 < 4 ^ 30
@@ -39,7 +39,7 @@ past_last = refl
 
 pub dozen : Dozen
 dozen =
-    let c = cell-examples in
+    let c = cell_examples in
     record {
       case_1 = (c.0, c.1, c.2, c.3);
       case_2 = (c.4, c.5, c.6, c.7);
@@ -49,8 +49,8 @@ dozen =
       case_6 = (last_told, past_last);
       case_7 = corner_examples.0;
       case_8 = corner_examples.1;
-      case_9 = point-examples.0;
-      case_10 = point-examples.1;
-      case_11 = (code-examples.0, code-examples.1);
+      case_9 = point_examples.0;
+      case_10 = point_examples.1;
+      case_11 = (code_examples.0, code_examples.1);
       case_12 = λ table start. unfold compiled_in in rw no_split;
     }

@@ -215,19 +215,19 @@ module _ (t : List ℤ) (states r token s : ℕ) where
     unfolding descent_of
     passes_many h = rw (ne_eqb r 0 some, lt-ltb 30 r h)
 
-    module _ (few-passes : r ≤ 30) {b : Bool} (e : b ≡ good_table t states token) where
+    module _ (few_passes : r ≤ 30) {b : Bool} (e : b ≡ good_table t states token) where
       pub table_bad : not b ≡ true → refused (number_of Is.Table) ≡ descent_of t states r token s
       unfolding descent_of
-      table_bad h = rw (ne_eqb r 0 some, le-ltb 30 r few-passes, sym e ∙ not-true b h)
+      table_bad h = rw (ne_eqb r 0 some, le-ltb 30 r few_passes, sym e ∙ not-true b h)
 
       module _ (good : not b ≡ false) where
         pub place_past : 0 < s / 2 ^ (2 * r) → refused (number_of Is.Position) ≡ descent_of t states r token s
         unfolding descent_of
-        place_past h = rw (ne_eqb r 0 some, le-ltb 30 r few-passes, sym e ∙ not-false b good, le-leb (4 ^ r) s (past r s h))
+        place_past h = rw (ne_eqb r 0 some, le-ltb 30 r few_passes, sym e ∙ not-false b good, le-leb (4 ^ r) s (past r s h))
 
         pub place_drawn : s / 2 ^ (2 * r) ≤ 0 → {l : Leaf} → l ≡ follow t (r - 1) origin (2 * token) s → told l ≡ descent_of t states r token s
         unfolding descent_of
-        place_drawn h f = rw (ne_eqb r 0 some, le-ltb 30 r few-passes, sym e ∙ not-false b good, lt-leb (4 ^ r) s (within r s h)) (ap told f)
+        place_drawn h f = rw (ne_eqb r 0 some, le-ltb 30 r few_passes, sym e ∙ not-false b good, lt-leb (4 ^ r) s (within r s h)) (ap told f)
 
 -- ---- a part of a table, and then what is told of the part
 module _ (table : List ℤ) (start states r token s : ℕ) {b : Bool} (e : b ≡ is_past (length table) start states) where

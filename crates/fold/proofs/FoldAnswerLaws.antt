@@ -32,10 +32,10 @@ module _ {A : Type 0} (slice : List A) {call : Told (List A)} {n : ℕ} (e : ref
   refused_left = sym (counted_kept call slice (sym refused_count))
 
 -- ---- the room, of a list that has passed its tests
-module _ (r : ℕ) (xs slice : List ℕ) {room : Bool} (room-is : room ≡ leb (length (fold_of r xs)) (length slice / 2)) where
+module _ (r : ℕ) (xs slice : List ℕ) {room : Bool} (room_is : room ≡ leb (length (fold_of r xs)) (length slice / 2)) where
   module _ (h : not room ≡ true) where
     short : length slice < 2 * length (fold_of r xs)
-    short = omega (arith, leb-false (length (fold_of r xs)) (length slice / 2) (sym room-is ∙ not-true room h))
+    short = omega (arith, leb-false (length (fold_of r xs)) (length slice / 2) (sym room_is ∙ not-true room h))
 
     pub short_count : refused (number_of Is.Room) ≡ valued (λ n. n / 2) (count_of (told (pairs (fold_of r xs))) slice)
     short_count = ap (valued (λ n. n / 2)) (count_short (pairs (fold_of r xs)) slice (length_pairs (fold_of r xs)) short).0
@@ -45,11 +45,11 @@ module _ (r : ℕ) (xs slice : List ℕ) {room : Bool} (room-is : room ≡ leb (
 
   module _ (h : not room ≡ false) where
     pub roomy : 2 * length (fold_of r xs) ≤ length slice
-    roomy = omega (arith, leb-true (length (fold_of r xs)) (length slice / 2) (sym room-is ∙ not-false room h))
+    roomy = omega (arith, leb-true (length (fold_of r xs)) (length slice / 2) (sym room_is ∙ not-false room h))
 
-    module _ {n : ℕ} {out : List ℕ} (count_is : n ≡ length (fold_of r xs)) (out-is : out ≡ pairs (fold_of r xs) ++ drop (2 * length (fold_of r xs)) slice) where
+    module _ {n : ℕ} {out : List ℕ} (count_is : n ≡ length (fold_of r xs)) (out_is : out ≡ pairs (fold_of r xs) ++ drop (2 * length (fold_of r xs)) slice) where
       counted : Counted (told (pairs (fold_of r xs))) slice (told (2 * length (fold_of r xs))) out
-      counted = count_whole (pairs (fold_of r xs)) slice (length_pairs (fold_of r xs)) roomy out-is
+      counted = count_whole (pairs (fold_of r xs)) slice (length_pairs (fold_of r xs)) roomy out_is
 
       pub whole_count : told n ≡ valued (λ n. n / 2) (count_of (told (pairs (fold_of r xs))) slice)
       whole_count =
@@ -75,7 +75,7 @@ module _ (o r : ℕ) (xs slice : List ℕ) {a : DomainAnswer} (ea : said_domain 
     outside_left = refused_left slice outside
 
   module _ (m : a ≡ DomainAnswer.In) {size : ℕ} (size_is : size ≡ position_count r) {below rising : Bool} (below_is : below ≡ all_below size xs)
-      (rising-is : rising ≡ ascending xs) where
+      (rising_is : rising ≡ ascending xs) where
     sized : size ≡ 4 ^ r
     sized = positions_are r (shallow o r a ea m) size_is
 
@@ -97,7 +97,7 @@ module _ (o r : ℕ) (xs slice : List ℕ) {a : DomainAnswer} (ea : said_domain 
       module _ (h : not rising ≡ true) where
         unordered : refused (number_of Is.Order) ≡ fold_call o r xs
         unfolding fold_call
-        unordered = simp (inside, sym rising-is ∙ not-true rising h) (in_domain_lem o r a ea m _)
+        unordered = simp (inside, sym rising_is ∙ not-true rising h) (in_domain_lem o r a ea m _)
 
         pub unordered_count : refused (number_of Is.Order) ≡ valued (λ n. n / 2) (count_of (fold_call o r xs) slice)
         unordered_count = ap (valued (λ n. n / 2)) (refused_count slice unordered)
@@ -107,7 +107,7 @@ module _ (o r : ℕ) (xs slice : List ℕ) {a : DomainAnswer} (ea : said_domain 
 
       module _ (j : not rising ≡ false) where
         pub listed : Listed r xs
-        listed = record { shallow = shallow o r a ea m; inside = inside; rising = is_rising xs rising-is j }
+        listed = record { shallow = shallow o r a ea m; inside = inside; rising = is_rising xs rising_is j }
 
         folded : told (pairs (fold_of r xs)) ≡ fold_call o r xs
         unfolding fold_call

@@ -36,12 +36,12 @@ module _ (r : ℕ) (xs slice : List ℕ) {size : ℕ} (size_is : size ≡ length
     pub roomy : length (positions_of r xs) ≤ length slice
     roomy = omega arith
 
-    module _ {n : ℕ} {out : List ℕ} (count_is : n ≡ length (positions_of r xs)) (out-is : out ≡ positions_of r xs ++ drop (length (positions_of r xs)) slice) where
+    module _ {n : ℕ} {out : List ℕ} (count_is : n ≡ length (positions_of r xs)) (out_is : out ≡ positions_of r xs ++ drop (length (positions_of r xs)) slice) where
       pub whole_count : told n ≡ count_of (told (positions_of r xs)) slice
-      whole_count = ap told count_is ∙ (count_whole (positions_of r xs) slice refl roomy out-is).0
+      whole_count = ap told count_is ∙ (count_whole (positions_of r xs) slice refl roomy out_is).0
 
       pub whole_left : out ≡ after_call (told (positions_of r xs)) slice
-      whole_left = (count_whole (positions_of r xs) slice refl roomy out-is).1
+      whole_left = (count_whole (positions_of r xs) slice refl roomy out_is).1
 
 pub ruleset unfolding_room = (short_count, short_left, roomy, whole_count, whole_left)
 

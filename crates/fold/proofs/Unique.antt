@@ -159,8 +159,8 @@ module _ (r : ℕ) (xs : List ℕ) (up : ascending xs ≡ true) where
           let a = next 1 (omega arith) (omega arith) cells w0 (rw near at l.4) in
           let b = next 2 (omega arith) (omega arith) (drop 1 cells) w1 a.1 in
           let c = next 3 (omega arith) (omega arith) (drop 1 (drop 1 cells)) w2 b.1 in
-          let all-four = siblings (r - k) m p cells (omega arith) (omega arith) four a.0 b.0 c.0 in
-          absurd (ended _ (record { m = m - 1; p = p / 4; front = w.0; back = _; four = w.1 ∙ ap (λ (x : List Cell). w.0 ++ x) all-four; one = refl })))
+          let all_four = siblings (r - k) m p cells (omega arith) (omega arith) four a.0 b.0 c.0 in
+          absurd (ended _ (record { m = m - 1; p = p / 4; front = w.0; back = _; four = w.1 ∙ ap (λ (x : List Cell). w.0 ++ x) all_four; one = refl })))
     ]
 
     front : (k : ℕ) → Front k

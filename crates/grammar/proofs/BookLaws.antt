@@ -26,8 +26,8 @@ pub part_cut : (words : List ℕ) (f n : ℕ) {lo k : ℕ} → lo ≡ min f (len
     → (part_word words (record { lo = lo; hi = lo + k }) ≡ take n (drop f words)) × PartWithin (length words) (record { lo = lo; hi = lo + k })
 part_cut words f n {lo} {k} e g =
     let here : drop lo words ≡ drop f words = rw e (drop_min f words) in
-    let k-is : lo + k - lo ≡ min n (length (drop f words)) = rw (← here, length-drop) (omega arith) in
-    (rw (k-is, here) (take_min n (drop f words)), record { ordered = omega arith; ended = omega arith })
+    let k_is : lo + k - lo ≡ min n (length (drop f words)) = rw (← here, length-drop) (omega arith) in
+    (rw (k_is, here) (take_min n (drop f words)), record { ordered = omega arith; ended = omega arith })
 
 -- ---- rows
 

@@ -48,10 +48,10 @@ abbrev Most : ℕ → Option (List ℕ) → Type 0
 Most k (some w) = length w ≤ k
 Most k none = Unit {0}
 
-module _ (book : ℕ → Option (List ℕ)) (k : ℕ) (some-room : 1 ≤ k) (most : (b : ℕ) → Most k (book b)) where
+module _ (book : ℕ → Option (List ℕ)) (k : ℕ) (some_room : 1 ≤ k) (most : (b : ℕ) → Most k (book b)) where
   self_most : (b : ℕ) (u : Option (List ℕ)) → Most k u → length (reversed_or_self b u) ≤ k
   self_most b (some u) h = rw (length_reversed u) h
-  self_most b none h = some-room
+  self_most b none h = some_room
 
   book_most : (b : ℕ) (w : Option (List ℕ)) → Most k w → length (by_book book b w) ≤ k
   book_most b (some w) h = h

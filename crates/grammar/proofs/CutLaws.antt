@@ -169,16 +169,16 @@ module _ (w : List ℕ) {a : ℕ} (ea : a ≡ until 32 w) where
                   let uk = span k 24 (sym f ∙ not-false v s) in
                   let ud = span d 12 (sym g ∙ not-false x y) in
                   let d_is : length l ≡ d = omega (arith, until_most 32 l) in
-                  let a-is : a ≡ 1 = omega arith in
-                  let r-is : r ≡ drop 2 w = er ∙ (rw a-is refl) in
+                  let a_is : a ≡ 1 = omega arith in
+                  let r_is : r ≡ drop 2 w = er ∙ (rw a_is refl) in
                   let far : 2 + (k + 1) ≡ k + 3 = omega arith in
-                  let l-is : l ≡ drop (k + 3) w = el ∙ (rw (r-is, drop-drop, far) refl) in
-                  let length-l : length l ≡ length w - (k + 3) = ap length l-is ∙ length-drop (k + 3) w in
+                  let l_is : l ≡ drop (k + 3) w = el ∙ (rw (r_is, drop-drop, far) refl) in
+                  let length_l : length l ≡ length w - (k + 3) = ap length l_is ∙ length-drop (k + 3) w in
                   let named : get_or (take a w) 0 0 ≡ get_or w 0 0 = get_or-take a w 0 0 (omega arith) in
                   record {
                     size = refl;
                     good = sizes ∙ (rw (sym e ∙ not-false u t, sym f ∙ not-false v s, sym g ∙ not-false x y) refl);
-                    line = rw three_fields (λ i. record { name = named i; rule = take k (r-is i); draw = l-is i });
+                    line = rw three_fields (λ i. record { name = named i; rule = take k (r_is i); draw = l_is i });
                     rule_fits = omega arith;
                     draw_fits = omega arith;
                     long = omega arith;
@@ -215,10 +215,10 @@ module _ (w : List ℕ) (good : shaped (ended w) ≡ true) where
       let draw = leb 1 draw_long && leb draw_long 12 in
       let all = from_true (sym (sizes w refl ha refl refl hk refl refl hd) ∙ good) in
       let front = both_left (name && rule) draw all in
-      let name-good : not name ≡ false = ap not (sym (is_true name (both_left name rule front))) in
-      let rule-good : not rule ≡ false = ap not (sym (is_true rule (both_right name rule front))) in
-      let draw-good : not draw ≡ false = ap not (sym (is_true draw (both_right (name && rule) draw all))) in
-      record { long = rule_long; cut = three w refl ha refl refl hk refl refl hd refl name-good refl rule-good refl draw-good }
+      let name_good : not name ≡ false = ap not (sym (is_true name (both_left name rule front))) in
+      let rule_good : not rule ≡ false = ap not (sym (is_true rule (both_right name rule front))) in
+      let draw_good : not draw ≡ false = ap not (sym (is_true draw (both_right (name && rule) draw all))) in
+      record { long = rule_long; cut = three w refl ha refl refl hk refl refl hd refl name_good refl rule_good refl draw_good }
 
   pub shaped_three : Spaced w
   shaped_three = elim (dec_lt name_long (length w)) [
@@ -252,15 +252,15 @@ module _ (t : List ℕ) {n : ℕ} (en : n ≡ until 10 t) where
     pub first_line : {k m : ℕ} → Three w k m → Cut t k m
     first_line {k} {m} p =
         let long = p.long in
-        let m-is : m ≡ n = p.size ∙ ap length ew ∙ length-take-le n t (omega arith) in
-        let draw-is : drop (k + 3) w ≡ take (n - (k + 3)) (drop (k + 3) t) = rw ew (drop_take n (k + 3) t) in
-        let rule-is : take k (drop 2 w) ≡ take k (drop 2 t) = rw (ew, drop_take n 2 t) (take-take k (n - 2) (drop 2 t) (omega arith)) in
+        let m_is : m ≡ n = p.size ∙ ap length ew ∙ length-take-le n t (omega arith) in
+        let draw_is : drop (k + 3) w ≡ take (n - (k + 3)) (drop (k + 3) t) = rw ew (drop_take n (k + 3) t) in
+        let rule_is : take k (drop 2 w) ≡ take k (drop 2 t) = rw (ew, drop_take n 2 t) (take-take k (n - 2) (drop 2 t) (omega arith)) in
         let named : get_or w 0 0 ≡ get_or t 0 0 = rw ew (get_or-take n t 0 0 (omega arith)) in
-        rw m-is
+        rw m_is
         record {
           rows = rw (← ew) rows_here;
           good = rw (← ew) p.good;
-          line = rw (← ew) (p.line ∙ λ i. record { name = named i; rule = rule-is i; draw = draw-is i });
+          line = rw (← ew) (p.line ∙ λ i. record { name = named i; rule = rule_is i; draw = draw_is i });
           rule_fits = p.rule_fits;
           draw_fits = omega (arith, p.draw_fits);
           long = omega arith;

@@ -8,7 +8,7 @@ use native.Mathlib.Omega.{arith}
 use lib.Dec.{T, eqb, eqb→eq}
 use lib.ListN.{length}
 use Rattle.whole.proofs.Bools.{both_left, both_right}
-use Rattle.turtle.specs.Plane.{◌⊕◌, equal_aB}
+use Rattle.turtle.specs.Plane.{◌⊕◌, equal_ab}
 use Rattle.turtle.specs.Walk.{symbols_of}
 use Rattle.turtle.proofs.EqualLaws.{equal_pairs}
 use Rattle.grammar.specs.Words.{is_upper, reversed}
@@ -97,7 +97,7 @@ module _ (ls : List Line) (next : Verdict) (p : line_tests ls next ≡ fine) whe
       let headings = not_not (along && back) a.1.1.1.0.1 in
       let strokes = not_not (lawful_draw l.draw && single) a.1.1.1.1.0.1 in
       let turns = not_not (rule_turns && draw_turns) a.1.1.1.1.1.0.1 in
-      let nets = not_not (equal_aB (net ls 2 l.name) (once ⊕ once)) a.1.1.1.1.1.1.0.1 in
+      let nets = not_not (equal_ab (net ls 2 l.name) (once ⊕ once)) a.1.1.1.1.1.1.0.1 in
       record {
         uppercase = uppercase_name a.0.0 l a.0.1;
         lawful = not_not (lawful_rule ls l.rule) a.1.0.1;

@@ -21,7 +21,7 @@ use Rattle.turtle.specs.declared.walk.DrawnCell.{DrawnCell}
 use Rattle.turtle.specs.declared.walk.Turtle.{Turtle}
 use Rattle.turtle.specs.declared.walk.Stepped.{Stepped}
 use Rattle.turtle.specs.Letters.{stroke_of}
-use Rattle.turtle.specs.Plane.{origin, ◌⊕◌, far, equal_aB}
+use Rattle.turtle.specs.Plane.{origin, ◌⊕◌, far, equal_ab}
 use Rattle.turtle.specs.Inside.Sizes.{Within, Small}
 use Rattle.turtle.specs.Walk.{Sym, left, right, letter, drawn, symbol_of, symbols_of, start, move, final, step_by, step_of, corners_by, corners_of}
 use Rattle.turtle.proofs.EqualLaws.{equal_pairs, pairs_equal}
@@ -163,12 +163,12 @@ module _ {w : List ℕ} {t : Turtle} {i : ℕ} (so_far : Walking w t i) where
   walk_end h k l = (ap (λ t. t.at) so_far.ends ∙ (rw (take_all i w l) refl), small_more (omega arith) so_far.small)
 
 -- ---- two nets compared
-pub twice_is : (p q : AB) (t : Bool) → (t ≡ true → p ≡ q) → (t ≡ false → p ≡ q → ⊥) → t ≡ equal_aB p q
-twice_is p q true h k = is_true (equal_aB p q) (pairs_equal p q (h refl))
-twice_is p q false h k = is_false (equal_aB p q) (λ t. k refl (equal_pairs p q t))
+pub twice_is : (p q : AB) (t : Bool) → (t ≡ true → p ≡ q) → (t ≡ false → p ≡ q → ⊥) → t ≡ equal_ab p q
+twice_is p q true h k = is_true (equal_ab p q) (pairs_equal p q (h refl))
+twice_is p q false h k = is_false (equal_ab p q) (λ t. k refl (equal_pairs p q t))
 
-pub twice_not : (p q : AB) → (p ≡ q → ⊥) → false ≡ equal_aB p q
-twice_not p q h = is_false (equal_aB p q) (λ t. h (equal_pairs p q t))
+pub twice_not : (p q : AB) → (p ≡ q → ⊥) → false ≡ equal_ab p q
+twice_not p q h = is_false (equal_ab p q) (λ t. h (equal_pairs p q t))
 
 -- ---- the nets
 -- the draws of a word, into a buffer with room for twelve bytes each
@@ -194,19 +194,19 @@ module _ (last : List ℕ) (n : ℕ) {v : List ℕ} (cut : v ≡ take n (drop 0 
 
   -- test 19
   module _ (ls : List Line) (l : Line) (once : take n last ≡ expand_once (rules ls) (l.name ∷ []))
-      {p q : AB} (p-is : p ≡ (final (symbols_of (expand_once (draws ls) v)) start).at) (q-is : q ≡ (final (symbols_of (expand_once (draws ls) (expand_once (rules ls) v))) start).at) where
+      {p q : AB} (p_is : p ≡ (final (symbols_of (expand_once (draws ls) v)) start).at) (q_is : q ≡ (final (symbols_of (expand_once (draws ls) (expand_once (rules ls) v))) start).at) where
     word_is : v ≡ expand_once (rules ls) (l.name ∷ [])
     word_is = cut ∙ once
 
     net_one : p ≡ net ls 1 l.name
     unfolding net strokes passes
-    net_one = p-is ∙ (rw word_is refl)
+    net_one = p_is ∙ (rw word_is refl)
 
     net_two : q ≡ net ls 2 l.name
     unfolding net strokes passes
-    net_two = q-is ∙ (rw word_is refl)
+    net_two = q_is ∙ (rw word_is refl)
 
-    pub net_verdict : {r : Bool} → r ≡ equal_aB q (p ⊕ p) → not r ≡ bad_net ls l
+    pub net_verdict : {r : Bool} → r ≡ equal_ab q (p ⊕ p) → not r ≡ bad_net ls l
     unfolding bad_net
     net_verdict e = ap not e ∙ (rw (net_one, net_two) refl)
 

@@ -131,9 +131,9 @@ module _ (text : List ℕ) (at : ℕ) {k n : ℕ} (cut : Cut (drop at text) k n)
   line_is : record { name = get_or text at 0; rule = take k (drop (at + 2) text); draw = take (n - (k + 3)) (drop (at + (k + 3)) text) } ≡ line_of row
   line_is =
       let named : get_or (drop at text) 0 0 ≡ get_or text at 0 = get_or-drop at text 0 0 ∙ ap (λ j. get_or text j 0) (add-zero at) in
-      let rule-from = drop-drop 2 at text in
-      let draw-from = drop-drop (k + 3) at text in
-      sym (cut.line ∙ λ i. record { name = named i; rule = take k (rule-from i); draw = take (n - (k + 3)) (draw-from i) })
+      let rule_from = drop-drop 2 at text in
+      let draw_from = drop-drop (k + 3) at text in
+      sym (cut.line ∙ λ i. record { name = named i; rule = take k (rule_from i); draw = take (n - (k + 3)) (draw_from i) })
 
   pub rows_behind : rows_of (drop (suc n) (drop at text)) ≡ rows_of (drop (at + (n + 1)) text)
   rows_behind = ap rows_of (drop-drop (suc n) at text ∙ ap (λ j. drop (at + j) text) (sym (add-one n)))

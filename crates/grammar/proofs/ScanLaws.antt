@@ -84,10 +84,10 @@ module _ {text : List ℕ} {s : Scanner} (so_far : Scanning text s) where
     -- which is at fault
     faulty : bad_shape (take ls.count rs) r ≡ true → {k : ℕ} → k ≡ ls.count + 1 → record { lines = ls; fault = k } ≡ scan_of text
     unfolding scan_of lines_of
-    faulty b {k} k-is =
+    faulty b {k} k_is =
         let found : first bad_shape rs ≡ suc ls.count = sym so_far.fault ∙ first_here bad_shape rs ls.count r next_row.0 (rw next_row.1 b) ∙ add-one ls.count in
         let kept : ls ≡ lines_placed no_lines 0 (take ls.count (map line_of rs)) = lines_are ∙ ap (lines_placed no_lines 0) (sym (take_map line_of ls.count rs)) in
-        rw (found, k-is, add-one) (λ i. record { lines = kept i; fault = suc ls.count })
+        rw (found, k_is, add-one) (λ i. record { lines = kept i; fault = suc ls.count })
 
   pub scan_ninth : at < length text → ls.count ≡ 8 → record { lines = ls; fault = 9 } ≡ scan_of text
   unfolding bad_shape

@@ -56,9 +56,9 @@ module _ (g : Grammar) (P : Stroke → Type 0) where
   every_stroke faced own (suc r) m b = rw (drawn_suc g r m) (every_word r 0 (g.rule m) (every_stroke faced own r) (faced m b))
 
 -- ---- a text of bytes: what holds of what each of its bytes draws
-module _ (P : Stroke → Type 0) (b : ℕ) (drawn-by : (s : Stroke) → Letter.Draws s ≡ stroke_of b → P s) where
+module _ (P : Stroke → Type 0) (b : ℕ) (drawn_by : (s : Stroke) → Letter.Draws s ≡ stroke_of b → P s) where
   every_drawn : (l : Letter) → l ≡ stroke_of b → Every P (drawn l)
-  every_drawn (Letter.Draws s) e = (drawn-by s e, tt)
+  every_drawn (Letter.Draws s) e = (drawn_by s e, tt)
   every_drawn Letter.NoDraw e = tt
 
   every_symbol : Every P (symbol_of b)

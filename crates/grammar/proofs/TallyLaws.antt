@@ -69,14 +69,14 @@ module _ (ls : List Line) (b : ℕ) where
     unfolding rule_symbol
     rule_right e = rw e rightward
 
-    module _ (m : b ≡ 45 → ⊥) {r : Bool} (r-is : r ≡ is_named ls (upper b)) where
+    module _ (m : b ≡ 45 → ⊥) {r : Bool} (r_is : r ≡ is_named ls (upper b)) where
       pub rule_letter : r ≡ true → RuleByte ls b Kind.Letter
       unfolding rule_symbol
-      rule_letter e = rw (ne_eqb b 43 p, ne_eqb b 45 m, sym r-is ∙ e) lettered
+      rule_letter e = rw (ne_eqb b 43 p, ne_eqb b 45 m, sym r_is ∙ e) lettered
 
       pub rule_nothing : r ≡ false → RuleByte ls b Kind.Nothing
       unfolding rule_symbol
-      rule_nothing e = rw (ne_eqb b 43 p, ne_eqb b 45 m, sym r-is ∙ e) nothing
+      rule_nothing e = rw (ne_eqb b 43 p, ne_eqb b 45 m, sym r_is ∙ e) nothing
 
 -- ---- a byte of a draw
 pub draw_at : {b k : ℕ} {kind : Kind} → b ≡ k → DrawByte k kind → DrawByte b kind
@@ -101,11 +101,11 @@ pub draw_nothing : {b : ℕ} → (b ≡ 43 → ⊥) → (b ≡ 45 → ⊥) → N
 unfolding symbol_of rows
 draw_nothing {b} p m r =
     let e : stroke_of b ≡ Letter.NoDraw = sym (no_letter b r) in
-    let big-e = no_upper b 69 r.0.0.0.0.0.0.0.0.0.1 r.0.0.0.0.0.0.0.0.1 in
-    let big-s = no_upper b 83 r.0.0.0.0.0.0.0.1 r.0.0.0.0.0.0.1 in
-    let big-d = no_upper b 68 r.0.0.0.1 r.0.0.1 in
-    let big-t = no_upper b 84 r.0.1 r.1 in
-    rw (ne_eqb b 43 p, ne_eqb b 45 m, e, big-e, big-s, big-d, big-t) nothing
+    let big_e = no_upper b 69 r.0.0.0.0.0.0.0.0.0.1 r.0.0.0.0.0.0.0.0.1 in
+    let big_s = no_upper b 83 r.0.0.0.0.0.0.0.1 r.0.0.0.0.0.0.1 in
+    let big_d = no_upper b 68 r.0.0.0.1 r.0.0.1 in
+    let big_t = no_upper b 84 r.0.1 r.1 in
+    rw (ne_eqb b 43 p, ne_eqb b 45 m, e, big_e, big_s, big_d, big_t) nothing
 
 -- ---- one byte more
 upright_append : {A : Type 0} (h : ℕ) (v w : List (Sym A)) → upright h (v ++ w) ≡ (upright h v && upright (turned h v) w)

@@ -104,39 +104,39 @@ module _ (ls : List Line) where
     unfolding line_tests
     fault_motif h = stopped 13 motif_is (from_rule ls) h
 
-    module _ (motif-none : motif ≡ 0) {rule : ℕ} (rule-is : rule ≡ first (λ _. bad_rule ls) ls) where
+    module _ (motif_none : motif ≡ 0) {rule : ℕ} (rule_is : rule ≡ first (λ _. bad_rule ls) ls) where
       pub fault_rule : (rule ≡ 0 → ⊥) → fault 14 rule ≡ line_tests ls fine
       unfolding line_tests
-      fault_rule h = passed_by 13 motif_is (from_rule ls) motif-none (stopped 14 rule-is (from_count ls) h)
+      fault_rule h = passed_by 13 motif_is (from_rule ls) motif_none (stopped 14 rule_is (from_count ls) h)
 
       module _ (rule_none : rule ≡ 0) {count : ℕ} (count_is : count ≡ first (λ _. bad_count ls) ls) where
         pub fault_count : (count ≡ 0 → ⊥) → fault 15 count ≡ line_tests ls fine
         unfolding line_tests
-        fault_count h = passed_by 13 motif_is (from_rule ls) motif-none (passed_by 14 rule-is (from_count ls) rule_none (stopped 15 count_is (from_heading ls) h))
+        fault_count h = passed_by 13 motif_is (from_rule ls) motif_none (passed_by 14 rule_is (from_count ls) rule_none (stopped 15 count_is (from_heading ls) h))
 
-        module _ (count_none : count ≡ 0) {heading : ℕ} (heading-is : heading ≡ first (λ _. bad_heading ls) ls) where
+        module _ (count_none : count ≡ 0) {heading : ℕ} (heading_is : heading ≡ first (λ _. bad_heading ls) ls) where
           pub fault_heading : (heading ≡ 0 → ⊥) → fault 16 heading ≡ line_tests ls fine
           unfolding line_tests
-          fault_heading h = passed_by 13 motif_is (from_rule ls) motif-none (passed_by 14 rule-is (from_count ls) rule_none (passed_by 15 count_is (from_heading ls) count_none (stopped 16 heading-is (from_draw ls) h)))
+          fault_heading h = passed_by 13 motif_is (from_rule ls) motif_none (passed_by 14 rule_is (from_count ls) rule_none (passed_by 15 count_is (from_heading ls) count_none (stopped 16 heading_is (from_draw ls) h)))
 
-          module _ (heading-none : heading ≡ 0) {draw : ℕ} (draw-is : draw ≡ first (λ _. bad_draw) ls) where
+          module _ (heading_none : heading ≡ 0) {draw : ℕ} (draw_is : draw ≡ first (λ _. bad_draw) ls) where
             pub fault_draw : (draw ≡ 0 → ⊥) → fault 17 draw ≡ line_tests ls fine
             unfolding line_tests
-            fault_draw h = passed_by 13 motif_is (from_rule ls) motif-none (passed_by 14 rule-is (from_count ls) rule_none (passed_by 15 count_is (from_heading ls) count_none (passed_by 16 heading-is (from_draw ls) heading-none (stopped 17 draw-is (from_turns ls) h))))
+            fault_draw h = passed_by 13 motif_is (from_rule ls) motif_none (passed_by 14 rule_is (from_count ls) rule_none (passed_by 15 count_is (from_heading ls) count_none (passed_by 16 heading_is (from_draw ls) heading_none (stopped 17 draw_is (from_turns ls) h))))
 
-            module _ (draw_none : draw ≡ 0) {turns : ℕ} (turns-is : turns ≡ first (λ _. bad_turns ls) ls) where
+            module _ (draw_none : draw ≡ 0) {turns : ℕ} (turns_is : turns ≡ first (λ _. bad_turns ls) ls) where
               pub fault_turns : (turns ≡ 0 → ⊥) → fault 18 turns ≡ line_tests ls fine
               unfolding line_tests
-              fault_turns h = passed_by 13 motif_is (from_rule ls) motif-none (passed_by 14 rule-is (from_count ls) rule_none (passed_by 15 count_is (from_heading ls) count_none (passed_by 16 heading-is (from_draw ls) heading-none (passed_by 17 draw-is (from_turns ls) draw_none (stopped 18 turns-is (from_net ls) h)))))
+              fault_turns h = passed_by 13 motif_is (from_rule ls) motif_none (passed_by 14 rule_is (from_count ls) rule_none (passed_by 15 count_is (from_heading ls) count_none (passed_by 16 heading_is (from_draw ls) heading_none (passed_by 17 draw_is (from_turns ls) draw_none (stopped 18 turns_is (from_net ls) h)))))
 
-              module _ (turns-none : turns ≡ 0) {net : ℕ} (net_is : net ≡ first (λ _. bad_net ls) ls) where
+              module _ (turns_none : turns ≡ 0) {net : ℕ} (net_is : net ≡ first (λ _. bad_net ls) ls) where
                 pub fault_net : (net ≡ 0 → ⊥) → fault 19 net ≡ line_tests ls fine
                 unfolding line_tests
-                fault_net h = passed_by 13 motif_is (from_rule ls) motif-none (passed_by 14 rule-is (from_count ls) rule_none (passed_by 15 count_is (from_heading ls) count_none (passed_by 16 heading-is (from_draw ls) heading-none (passed_by 17 draw-is (from_turns ls) draw_none (passed_by 18 turns-is (from_net ls) turns-none (stopped 19 net_is fine h))))))
+                fault_net h = passed_by 13 motif_is (from_rule ls) motif_none (passed_by 14 rule_is (from_count ls) rule_none (passed_by 15 count_is (from_heading ls) count_none (passed_by 16 heading_is (from_draw ls) heading_none (passed_by 17 draw_is (from_turns ls) draw_none (passed_by 18 turns_is (from_net ls) turns_none (stopped 19 net_is fine h))))))
 
                 pub fault_none : net ≡ 0 → fine ≡ line_tests ls fine
                 unfolding line_tests
-                fault_none net-none = passed_by 13 motif_is (from_rule ls) motif-none (passed_by 14 rule-is (from_count ls) rule_none (passed_by 15 count_is (from_heading ls) count_none (passed_by 16 heading-is (from_draw ls) heading-none (passed_by 17 draw-is (from_turns ls) draw_none (passed_by 18 turns-is (from_net ls) turns-none (passed_by 19 net_is fine net-none refl))))))
+                fault_none net_none = passed_by 13 motif_is (from_rule ls) motif_none (passed_by 14 rule_is (from_count ls) rule_none (passed_by 15 count_is (from_heading ls) count_none (passed_by 16 heading_is (from_draw ls) heading_none (passed_by 17 draw_is (from_turns ls) draw_none (passed_by 18 turns_is (from_net ls) turns_none (passed_by 19 net_is fine net_none refl))))))
 
 -- ---- the text
 module _ (text : List ℕ) where

@@ -85,8 +85,8 @@ module _ (ls : List Line) (l : Line) {w : List ℕ} {t : Tally} (e : w ≡ l.rul
   pub turns_draw : t.heading ≡ 0 → {v : List ℕ} {s : Tally} → v ≡ l.draw → DrawWord v s → not (eqb s.heading 0) ≡ bad_turns ls l
   unfolding bad_turns
   turns_draw z {v} {s} f d =
-      let draw-end : turned 0 (symbols_of l.draw) ≡ s.heading = sym (d.end ∙ ap (λ v. turned 0 (symbols_of v)) f) in
-      sym (rw (end, eq-eqb t.heading 0 z, draw-end) refl)
+      let draw_end : turned 0 (symbols_of l.draw) ≡ s.heading = sym (d.end ∙ ap (λ v. turned 0 (symbols_of v)) f) in
+      sym (rw (end, eq-eqb t.heading 0 z, draw_end) refl)
 
 -- ---- 17, by the draw's tally
 module _ (l : Line) {w : List ℕ} {t : Tally} (e : w ≡ l.draw) (r : DrawWord w t) where

@@ -1,6 +1,6 @@
 -- The tests of a grammar text by number, 12 to 19, each over all lines before the next. (20 is the tables'.)
 use Rattle.std.specs.Prelude.{Bool, true, not, ◌&&◌, ◌||◌, cond, List, [], ◌∷◌, ◌++◌, ℕ, zero, suc, leb, eqb, length}
-use Rattle.turtle.specs.Plane.{◌⊕◌, equal_aB}
+use Rattle.turtle.specs.Plane.{◌⊕◌, equal_ab}
 use Rattle.turtle.specs.Walk.{symbols_of}
 use Rattle.grammar.specs.Words.{is_upper, upper, reversed}
 use Rattle.grammar.specs.Texts.{Row, shaped, Line, rows_of, lines_of}
@@ -70,7 +70,7 @@ bad_turns ls l = not (eqb (turned 0 (rule_symbols ls l.rule)) 0 && eqb (turned 0
 
 -- 19: the net after two passes is not twice the net after one
 unfoldable pub bad_net : List Line → Line → Bool
-bad_net ls l = let once = net ls 1 l.name in not (equal_aB (net ls 2 l.name) (once ⊕ once))
+bad_net ls l = let once = net ls 1 l.name in not (equal_ab (net ls 2 l.name) (once ⊕ once))
 
 unfoldable pub line_tests : List Line → Verdict → Verdict
 line_tests ls next =

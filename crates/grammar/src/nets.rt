@@ -1,6 +1,6 @@
 // Where the walk along a word's draws ends: test 19 compares two of them.
 ghost use Rattle.std.specs.Prelude.{◌≡◌, ◌*◌, ◌<◌, ◌≤◌, length, take};
-ghost use Rattle.turtle.specs.Plane.{◌⊕◌, equal_aB};
+ghost use Rattle.turtle.specs.Plane.{◌⊕◌, equal_ab};
 ghost use Rattle.turtle.specs.Inside.Sizes.{Small};
 ghost use Rattle.turtle.specs.Walk.{symbol_of, symbols_of, start, final};
 ghost use Rattle.grammar.specs.Words.{expand_once};
@@ -71,7 +71,7 @@ pub(crate) fn ruled_end(text: &[u8], lines: Lines, w: &[u8]) -> AB
 
 pub(crate) fn is_twice(p: AB, q: AB) -> bool
     requires { Small 65536 q }
-    ensures { result ≡ equal_aB p (q ⊕ q) }
+    ensures { result ≡ equal_ab p (q ⊕ q) }
 {
     if p.a != q.a + q.a {
         return false;

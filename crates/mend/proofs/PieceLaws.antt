@@ -54,18 +54,18 @@ module _ (rest : List ℕ) where
 
 -- ---- the cases are all: what holds of each holds of the piece
 module _ (P : Piece → Type 0) (rest : List ℕ) (some : 0 < length rest)
-    (is-copied : (x : Reading) → read_of rest ≡ told x → x.old ≡ false → P (copied rest x.used))
-    (is-anew : (c : Change) → 0 < length (tellings c) → (x : Reading) → loose_of rest ≡ told x → P (anew c x))
+    (is_copied : (x : Reading) → read_of rest ≡ told x → x.old ≡ false → P (copied rest x.used))
+    (is_anew : (c : Change) → 0 < length (tellings c) → (x : Reading) → loose_of rest ≡ told x → P (anew c x))
     (is_lost : P lost) where
   read_cases : (old : Bool) (x : Reading) → x.old ≡ old → read_of rest ≡ told x → P (piece_of rest)
   unfolding tellings
-  read_cases true x m e = rw (← piece_turned rest some x (sym e) m) (is-anew Turned (lit< tt) x (read_loosely rest e).0)
-  read_cases false x m e = rw (← piece_copied rest some x (sym e) m) (is-copied x e m)
+  read_cases true x m e = rw (← piece_turned rest some x (sym e) m) (is_anew Turned (lit< tt) x (read_loosely rest e).0)
+  read_cases false x m e = rw (← piece_copied rest some x (sym e) m) (is_copied x e m)
 
   marked_cases : (old : Bool) (x : Reading) → x.old ≡ old → loose_of rest ≡ told x → P (unread_of rest)
   unfolding tellings
-  marked_cases true x m e = rw (← unread_both rest x (sym e) m) (is-anew Both (lit< tt) x e)
-  marked_cases false x m e = rw (← unread_spare rest x (sym e) m) (is-anew Spare (lit< tt) x e)
+  marked_cases true x m e = rw (← unread_both rest x (sym e) m) (is_anew Both (lit< tt) x e)
+  marked_cases false x m e = rw (← unread_spare rest x (sym e) m) (is_anew Spare (lit< tt) x e)
 
   unread_cases : (t : Told Reading) → loose_of rest ≡ t → P (unread_of rest)
   unread_cases (told x) e = marked_cases x.old x refl e

@@ -146,14 +146,14 @@ module _ {list d out : List ℕ} {at n changes : ℕ} (before : Walked list d ou
         written_fits l = record { fits = omega (arith, taken_inside, written_short, before.behind) }
 
         pub changes_fit : length list * 1 < 2 ^ 63 → {k : ℕ} → k ≡ length (tellings x.change) → Fits w64 (changes + k)
-        changes_fit l k-is = record { fits = omega (arith, few_lines x.change, k-is, taken_some, taken_inside, before.few) }
+        changes_fit l k_is = record { fits = omega (arith, few_lines x.change, k_is, taken_some, taken_inside, before.few) }
 
         pub ahead_less : length list - (at + x.taken) < length list - at
         ahead_less = omega (arith, taken_some)
 
         pub walked_next : {last : List ℕ} → last ≡ after_call (told (piece_for part p).bytes) room → {k : ℕ} → k ≡ length (tellings x.change)
             → Walked list d (put_mid n (length out - n) out last) (at + x.taken) (n + x.written) (changes + k)
-        walked_next {last} laid {k} k-is =
+        walked_next {last} laid {k} k_is =
             let rest = drop at list in
             let same = part_end list at in
             let some : 0 < length rest = rw (← same) part_some in
@@ -174,12 +174,12 @@ module _ {list d out : List ℕ} {at n changes : ℕ} (before : Walked list d ou
             let few = few_lines x.change in
             let told_here : length (lines_from at (pieces_of rest)) ≡ k + length (lines_from (at + x.taken) (pieces_of (left rest))) =
             ap length (lines_more at rest some) ∙ length-append (lines_at at (tellings (piece_of rest).change)) _
-            ∙ ap₂ (λ (i j : ℕ). i + length (lines_from (at + j) (pieces_of (left rest)))) (lines_count at (tellings (piece_of rest).change) ∙ ap (λ (c : Change). length (tellings c)) change ∙ sym k-is) taken in
+            ∙ ap₂ (λ (i j : ℕ). i + length (lines_from (at + j) (pieces_of (left rest)))) (lines_count at (tellings (piece_of rest).change) ∙ ap (λ (c : Change). length (tellings c)) change ∙ sym k_is) taken in
             record {
               fit = before.fit;
               inside = taken_inside;
               behind = omega (arith, written_short, before.behind);
-              few = omega (arith, few, k-is, taken_some, before.few);
+              few = omega (arith, few, k_is, taken_some, before.few);
               kept = ap length so_far ∙ length_fronted (take (n + x.written) m) d (omega (arith, place, written_short, taken_inside, before.behind, before.fit));
               place = place;
               ahead = sym (drop-drop x.written n m) ∙ ap (drop x.written) follows ∙ drop_at v (mend_of (left rest)) x.written long ∙ ap mend_of next;

@@ -31,20 +31,20 @@ abbrev step : ℤ → ℤ → ℤ → ℕ → Node → Told ChildStep
 step x y z f n = told (record { cell = record { triple = triple x y z; flavor = f }; node = n })
 
 -- down to UV's position 6 and VW's position 9 at resolution 2, which name one cell, and what its lookup reaches
-pub step-examples :
+pub step_examples :
     (child_step_of (axiom_node 0) 1 ≡ step (pos 0) (pos 1) (pos 0) 1 (node_with 0 1 5 0 (fin false 1 (pos 3)) (fin true 1 (pos 2))))
     × (child_step_of (node_at 0 1 1) 2 ≡ step (negsuc 0) (pos 2) (pos 0) 3 (node_at 0 2 6))
     × (child_step_of (node_at 4 1 2) 1 ≡ step (negsuc 0) (pos 2) (pos 0) 3 (node_with 4 2 1 1 (fin true 1 (pos 4)) (fin false 3 (pos 3))))
     × (node_of 0 2 (triple (negsuc 0) (pos 2) (pos 0)) ≡ told (record { position = record { s = 6; flavor = 3 }; node = node_at 0 2 6 }))
     × (node_of 2 0 (triple (pos 0) (pos 0) (pos 0)) ≡ told (record { position = record { s = 0; flavor = 2 }; node = axiom_node 2 }))
 unfolding number_of is_in_bounds origin neg ◌⊕◌ thrice signed facing flipped rot rots far toggled letters stroke_of symbol_of symbols_of move corner turned_flavor cell cells final corner_sum candidate has_corner_sum triple_of upper mirrored reversed word_of expand_once rows_of fields_of line_of lines_of Curves.rule_symbol passes strokes drawing net token_bytes letter_of token_of rule_symbols children_along children offset_after offset leaves a5_text a5 axiom_motif axiom_of is_backward is_shifted place_from curve_place moved_by shifted drawn_cell named cell_at cell_of seek position_of good_position good_frame good_node can_step frame_start frame axiom_frame axiom_node child_cell below cell_below_of step_to child_step_of frame_at node_at node_of of_int to_signed
-step-examples = (refl, refl, refl, refl, refl)
+step_examples = (refl, refl, refl, refl, refl)
 
 abbrev zero_at : Float
 zero_at = fin false 0 (pos 0)
 
 -- the refusals in their order
-pub refused-steps :
+pub refused_steps :
     (child_step_of (node_with 6 0 0 0 zero_at zero_at) 4 ≡ refused 7)
     × (child_step_of (node_with 0 31 0 0 zero_at zero_at) 4 ≡ refused 7)
     × (child_step_of (node_with 0 30 0 0 zero_at zero_at) 0 ≡ refused 7)
@@ -59,4 +59,4 @@ pub refused-steps :
     × (child_step_of (node_with 0 0 0 0 zero_at (fin true 1 (pos 36))) 0 ≡ refused 5)
     × (child_step_of (node_with 0 0 0 0 zero_at (fin true 1 (pos 2))) 0 ≡ refused 5)
 unfolding number_of is_in_bounds origin neg ◌⊕◌ thrice signed facing flipped rot rots far toggled letters stroke_of symbol_of symbols_of move corner turned_flavor cell cells final corner_sum candidate has_corner_sum triple_of upper mirrored reversed word_of expand_once rows_of fields_of line_of lines_of Curves.rule_symbol passes strokes drawing net token_bytes letter_of token_of rule_symbols children_along children offset_after offset leaves a5_text a5 axiom_motif axiom_of is_backward is_shifted place_from curve_place moved_by shifted named good_position good_frame good_node can_step frame_start frame child_cell below cell_below_of step_to child_step_of of_int to_signed
-refused-steps = (refl, refl, refl, refl, refl, refl, refl, refl, refl, refl, refl, refl, refl)
+refused_steps = (refl, refl, refl, refl, refl, refl, refl, refl, refl, refl, refl, refl, refl)

@@ -23,14 +23,14 @@ abbrev beside : List ℕ
 beside = 80 ∷ 79 ∷ 76 ∷ 89 ∷ 71 ∷ 79 ∷ 78 ∷ 32 ∷ 40 ∷ 40 ∷ 52 ∷ 32 ∷ 45 ∷ 52 ∷ 44 ∷ 32 ∷ 56 ∷ 32 ∷ 45 ∷ 52 ∷ 44 ∷ 32 ∷ 52 ∷ 32 ∷ 48 ∷ 44 ∷ 32 ∷ 52 ∷ 32 ∷ 45 ∷ 52 ∷ 41 ∷ 41 ∷ []
 
 -- the cell (0, 0, 0), and its neighbor (0, 1, 0) at resolution 1; the refusals in their order
-pub write-examples :
+pub write_examples :
     (wkt_of 0 (cell (pos 0) (pos 0) (pos 0)) ≡ told zeros)
     × (wkt_of 1 (cell (pos 0) (pos 1) (pos 0)) ≡ told beside)
     × (wkt_of 31 (cell (pos 1) (pos 1) (pos 0)) ≡ refused 1)
     × (wkt_of 30 (cell (pos 1) (pos 1) (pos 0)) ≡ refused 4)
     × (wkt_of 0 (cell (pos 0) (pos 1) (pos 0)) ≡ refused 5)
 unfolding number_of is_in_bounds digits natural integer ◌⊕◌ corner_sum cell_corners corner_text ring_text wkt_of
-write-examples = (refl, refl, refl, refl, refl)
+write_examples = (refl, refl, refl, refl, refl)
 
 -- other spellings of the cell (0, 0, 0), in turn: a space more, a leading zero, -0, another first corner, the other way round
 abbrev spaced : List ℕ
@@ -53,7 +53,7 @@ abbrev halved : List ℕ
 halved = 80 ∷ 79 ∷ 76 ∷ 89 ∷ 71 ∷ 79 ∷ 78 ∷ 32 ∷ 40 ∷ 40 ∷ 50 ∷ 32 ∷ 48 ∷ 44 ∷ 32 ∷ 54 ∷ 32 ∷ 45 ∷ 52 ∷ 44 ∷ 32 ∷ 54 ∷ 32 ∷ 48 ∷ 44 ∷ 32 ∷ 50 ∷ 32 ∷ 48 ∷ 41 ∷ 41 ∷ []
 
 -- what is read back, what is out of bounds, and what is no cell's polygon; the resolution is tested first
-pub read-examples :
+pub read_examples :
     (cell_of_wkt 0 zeros ≡ told (cell (pos 0) (pos 0) (pos 0)))
     × (cell_of_wkt 1 beside ≡ told (cell (pos 0) (pos 1) (pos 0)))
     × (cell_of_wkt 0 beside ≡ refused 5)
@@ -67,4 +67,4 @@ pub read-examples :
     × (cell_of_wkt 0 reversed ≡ refused 27)
     × (cell_of_wkt 0 halved ≡ refused 27)
 unfolding number_of is_in_bounds digit_of is_decimal up_to signed digit_count decimal_length decimal_at digits natural integer ◌⊕◌ corner_sum cell_corners corner_text ring_text corner_at parity_from starting_at narrow same_text spelled_cell cell_of_wkt
-read-examples = (refl, refl, refl, refl, refl, refl, refl, refl, refl, refl, refl, refl)
+read_examples = (refl, refl, refl, refl, refl, refl, refl, refl, refl, refl, refl, refl)

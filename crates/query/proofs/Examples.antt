@@ -24,7 +24,7 @@ use Rattle.query.specs.Queries.{answer_of}
 use Rattle.query.specs.Lines.{headed, starts, query_of, found_words, answer_line}
 
 -- the seven of the program
-pub line-examples :
+pub line_examples :
     -- P 0 1 2 prints -1 1 0 2
     (answer_line (80 ∷ 32 ∷ 48 ∷ 32 ∷ 49 ∷ 32 ∷ 50 ∷ []) ≡ 45 ∷ 49 ∷ 32 ∷ 49 ∷ 32 ∷ 48 ∷ 32 ∷ 50 ∷ [])
     -- P 5 1 0 prints -1 1 0 2
@@ -40,10 +40,10 @@ pub line-examples :
     -- C 0 1 0 2 -2 prints ! 5
     × (answer_line (67 ∷ 32 ∷ 48 ∷ 32 ∷ 49 ∷ 32 ∷ 48 ∷ 32 ∷ 50 ∷ 32 ∷ 45 ∷ 50 ∷ []) ≡ 33 ∷ 32 ∷ 53 ∷ [])
 unfolding number_of is_in_bounds origin ◌⊕◌ rot rots far toggled letters stroke_of symbol_of symbols_of move corner turned_flavor cell cells corner_sum candidate has_corner_sum triple_of upper mirrored reversed word_of expand_once rows_of words_of line_of lines_of passes strokes drawing a5_text a5 axiom_motif axiom_of is_backward is_shifted place_from curve_place moved_by shifted drawn_cell named cell_at cell_of seek position_of near floor fraction parity settled is_moved mark_of point_of add sub le of_int of_bits digit_of is_decimal up_to signed f64 digits natural integer answer_of headed starts query_of found_words spaced answer_line
-line-examples = (refl, refl, refl, refl, refl, refl, refl)
+line_examples = (refl, refl, refl, refl, refl, refl, refl)
 
 -- the refusals in their order
-pub refused-lines :
+pub refused_lines :
     -- P 6 31 0 prints ! 1
     (answer_line (80 ∷ 32 ∷ 54 ∷ 32 ∷ 51 ∷ 49 ∷ 32 ∷ 48 ∷ []) ≡ 33 ∷ 32 ∷ 49 ∷ [])
     -- C 6 30 9 9 9 prints ! 2
@@ -59,13 +59,13 @@ pub refused-lines :
     -- P 0 0 18446744073709551615 prints ! 3
     × (answer_line (80 ∷ 32 ∷ 48 ∷ 32 ∷ 48 ∷ 32 ∷ 49 ∷ 56 ∷ 52 ∷ 52 ∷ 54 ∷ 55 ∷ 52 ∷ 52 ∷ 48 ∷ 55 ∷ 51 ∷ 55 ∷ 48 ∷ 57 ∷ 53 ∷ 53 ∷ 49 ∷ 54 ∷ 49 ∷ 53 ∷ []) ≡ 33 ∷ 32 ∷ 51 ∷ [])
 unfolding number_of words_of digit_of is_decimal up_to signed f64 digits natural of_bits integer near cell_of position_of point_of answer_of headed starts query_of found_words spaced answer_line
-refused-lines = (refl, refl, refl, refl, refl, refl, refl)
+refused_lines = (refl, refl, refl, refl, refl, refl, refl)
 
 abbrev unread : List ℕ
 unread = 33 ∷ 32 ∷ 50 ∷ 49 ∷ []
 
 -- lines that do not parse
-pub unread-lines :
+pub unread_lines :
     -- the empty line
     (answer_line ([]) ≡ unread)
     -- P
@@ -101,4 +101,4 @@ pub unread-lines :
     -- P +0 1 2
     × (answer_line (80 ∷ 32 ∷ 43 ∷ 48 ∷ 32 ∷ 49 ∷ 32 ∷ 50 ∷ []) ≡ unread)
 unfolding number_of words_of digit_of is_decimal up_to signed f64 digits natural of_bits integer near cell_of position_of point_of answer_of headed starts query_of found_words spaced answer_line
-unread-lines = (refl, refl, refl, refl, refl, refl, refl, refl, refl, refl, refl, refl, refl, refl, refl, refl, refl)
+unread_lines = (refl, refl, refl, refl, refl, refl, refl, refl, refl, refl, refl, refl, refl, refl, refl, refl, refl)

@@ -117,7 +117,7 @@ named_printed t p {e} {slice} {between} a b c m n h =
 pub point_printed : (c : PointCell) (p : Position) {mark : ℕ} → mark ≡ mark_of c → {e f : ℕ} {slice between after : List ℕ} → Put between e (32 ∷ natural mark) after f → Printed 60 slice (spaced (triple_words c.triple (position_words p []))) between e → 62 ≤ length slice
     → Printed 62 slice (found_text (told (Found.Point c p))) after f
 unfolding found_words spaced
-point_printed c p mark-is a b h = line_as (next_piece 2 b (rw mark-is at a) (omega (arith, mark_length c)) (omega arith)) (simp append_assoc) (omega arith)
+point_printed c p mark_is a b h = line_as (next_piece 2 b (rw mark_is at a) (omega (arith, mark_length c)) (omega arith)) (simp append_assoc) (omega arith)
 
 module _ (answer : FoundAnswer) {f : ℕ} {slice after : List ℕ} where
   pub found_printed : (found : Found) → answer ≡ FoundAnswer.Found found → Printed 62 slice (found_text (told found)) after f → Printed 62 slice (found_text (said_found answer)) after f

@@ -55,23 +55,23 @@ module _ (o r : ℕ) (xs : List ℤ) (reported : Reported o r xs) where
   pub work_below : {work : List ℕ} → work ≡ places_of o r (triples_in xs) → all_below (4 ^ r) work ≡ true
   work_below e = rw e below
 
-  module _ {work : List ℕ} (work-is : work ≡ places_of o r (triples_in xs)) {n : ℕ} (n_is : n ≡ length (in_order r work)) {left : List ℕ} (left_is : left ≡ settled r work) where
+  module _ {work : List ℕ} (work_is : work ≡ places_of o r (triples_in xs)) {n : ℕ} (n_is : n ≡ length (in_order r work)) {left : List ℕ} (left_is : left ≡ settled r work) where
     pub report_within : n ≤ length left
     unfolding settled
     report_within = omega (arith, ap length left_is, length-append (in_order r work) (replicate (length work - length (in_order r work)) 0))
 
     pub report_left : left ≡ settled r (places_of o r (triples_in xs))
-    report_left = left_is ∙ ap (settled r) work-is
+    report_left = left_is ∙ ap (settled r) work_is
 
     pub report_size : length (settled r work) ≡ length work → length (settled r (places_of o r (triples_in xs))) ≡ length (triples_in xs)
-    report_size e = ap (λ (l : List ℕ). length (settled r l)) (sym work-is) ∙ e ∙ ap length work-is ∙ places_length o r (triples_in xs)
+    report_size e = ap (λ (l : List ℕ). length (settled r l)) (sym work_is) ∙ e ∙ ap length work_is ∙ places_length o r (triples_in xs)
 
     pub report_part : n ≡ length (take n left)
     report_part = sym (length-take-le n left report_within)
 
     ordered : take n left ≡ in_order r (places_of o r (triples_in xs))
     unfolding settled
-    ordered = ap (take n) left_is ∙ take_at (in_order r work) (replicate (length work - length (in_order r work)) 0) n (sym n_is) ∙ ap (in_order r) work-is
+    ordered = ap (take n) left_is ∙ take_at (in_order r work) (replicate (length work - length (in_order r work)) 0) n (sym n_is) ∙ ap (in_order r) work_is
 
     folds : fold_call o r (take n left) ≡ told (pairs (fold_of r (places_of o r (triples_in xs))))
     folds =
@@ -131,14 +131,14 @@ module _ (o r : ℕ) (xs : List ℤ) (work out : List ℕ) {a : DomainAnswer} (e
     pub outside_work : work ≡ after_call (work_to o r xs work out) work
     outside_work = no_work o r xs work out outside
 
-  module _ (m : a ≡ DomainAnswer.In) {sums : Bool} (sums-is : sums ≡ every good_sum (triples_in xs)) where
+  module _ (m : a ≡ DomainAnswer.In) {sums : Bool} (sums_is : sums ≡ every good_sum (triples_in xs)) where
     pub tests_low : r ≤ 30
     tests_low = shallow o r a ea m
 
     module _ (h : not sums ≡ true) where
       unsummed : refused (number_of Is.Sum) ≡ report_to o r xs work out
       unfolding report_call
-      unsummed = early o r xs work out (simp (sym sums-is ∙ not-true sums h) (in_domain_lem o r a ea m _))
+      unsummed = early o r xs work out (simp (sym sums_is ∙ not-true sums h) (in_domain_lem o r a ea m _))
 
       pub unsummed_count : refused (number_of Is.Sum) ≡ valued (λ n. n / 2) (count_of (report_to o r xs work out) out)
       unsummed_count = no_count o r xs work out unsummed
@@ -149,14 +149,14 @@ module _ (o r : ℕ) (xs : List ℤ) (work out : List ℕ) {a : DomainAnswer} (e
       pub unsummed_work : work ≡ after_call (work_to o r xs work out) work
       unsummed_work = no_work o r xs work out unsummed
 
-    module _ (i : not sums ≡ false) {bounded : Bool} (bounded-is : bounded ≡ every (is_in_bounds r) (triples_in xs)) where
+    module _ (i : not sums ≡ false) {bounded : Bool} (bounded_is : bounded ≡ every (is_in_bounds r) (triples_in xs)) where
       good : every good_sum (triples_in xs) ≡ true
-      good = sym sums-is ∙ not-false sums i
+      good = sym sums_is ∙ not-false sums i
 
       module _ (h : not bounded ≡ true) where
         unbounded : refused (number_of Is.Bounds) ≡ report_to o r xs work out
         unfolding report_call
-        unbounded = early o r xs work out (simp (good, sym bounded-is ∙ not-true bounded h) (in_domain_lem o r a ea m _))
+        unbounded = early o r xs work out (simp (good, sym bounded_is ∙ not-true bounded h) (in_domain_lem o r a ea m _))
 
         pub unbounded_count : refused (number_of Is.Bounds) ≡ valued (λ n. n / 2) (count_of (report_to o r xs work out) out)
         unbounded_count = no_count o r xs work out unbounded
@@ -169,7 +169,7 @@ module _ (o r : ℕ) (xs : List ℤ) (work out : List ℕ) {a : DomainAnswer} (e
 
       module _ (j : not bounded ≡ false) where
         inside : every (is_in_bounds r) (triples_in xs) ≡ true
-        inside = sym bounded-is ∙ not-false bounded j
+        inside = sym bounded_is ∙ not-false bounded j
 
         pub tests_reported : Reported o r xs
         tests_reported = record { shallow = shallow o r a ea m; oriented = oriented o r a ea m; good = good; bounded = inside }
@@ -204,14 +204,14 @@ module _ (o r : ℕ) (xs : List ℤ) (work out : List ℕ) (reported : Reported 
     pub cut_work : work ≡ after_call (work_to o r xs work out) work
     cut_work = no_work o r xs work out cut
 
-  module _ (h : length xs % 3 ≡ 0) {n : ℕ} (n_is : n ≡ length xs / 3) {short : Bool} (short-is : short ≡ (ltb (length work) n || ltb (length out) (2 * n))) where
+  module _ (h : length xs % 3 ≡ 0) {n : ℕ} (n_is : n ≡ length xs / 3) {short : Bool} (short_is : short ≡ (ltb (length work) n || ltb (length out) (2 * n))) where
     given : report_to o r xs work out ≡ refuse (too_short xs work out) Is.Room (told (pairs (fold_of r (places_of o r (triples_in xs)))))
     unfolding report_to report_call
     given = rw (← domain_in o r _ reported.shallow reported.oriented) (simp (reported.good, reported.bounded, eq-eqb (length xs % 3) 0 h))
 
     short_same : too_short xs work out ≡ short
     unfolding too_short
-    short_same = ap (λ (k : ℕ). ltb (length work) k || ltb (length out) (2 * k)) (triples_length xs ∙ sym n_is) ∙ sym short-is
+    short_same = ap (λ (k : ℕ). ltb (length work) k || ltb (length out) (2 * k)) (triples_length xs ∙ sym n_is) ∙ sym short_is
 
     module _ (k : short ≡ true) where
       no_room : refused (number_of Is.Room) ≡ report_to o r xs work out
@@ -231,7 +231,7 @@ module _ (o r : ℕ) (xs : List ℤ) (work out : List ℕ) (reported : Reported 
       all_told = given ∙ rw (short_same, k) refl
 
       long_enough : n ≤ length work
-      long_enough = ltb-false (length work) n (first_false (ltb (length work) n) (ltb (length out) (2 * n)) (sym short-is ∙ k))
+      long_enough = ltb-false (length work) n (first_false (ltb (length work) n) (ltb (length out) (2 * n)) (sym short_is ∙ k))
         where
           first_false : (x y : Bool) → (x || y) ≡ false → x ≡ false
           first_false true y e = e

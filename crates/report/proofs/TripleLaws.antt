@@ -102,10 +102,10 @@ pub triple_inside : (xs : List ℤ) {k n : ℕ} → k < n → n ≡ length xs / 
 triple_inside xs h e = omega arith
 
 module _ (f : Triple → Bool) (xs : List ℤ) {k : ℕ} (testing : Testing f xs k) {n : ℕ} (n_is : n ≡ length xs / 3) where
-  module _ (h : k < n) {t : Triple} (t-is : t ≡ triple_at xs k) {b : Bool} (b_is : b ≡ f t) where
+  module _ (h : k < n) {t : Triple} (t_is : t ≡ triple_at xs k) {b : Bool} (b_is : b ≡ f t) where
     next : every f (drop k (triples_in xs)) ≡ (b && every f (drop (suc k) (triples_in xs)))
     unfolding every
-    next = ap (every f) (triples_next xs k (triple_inside xs h n_is)) ∙ ap (λ (y : Bool). y && every f (drop (suc k) (triples_in xs))) (sym (b_is ∙ ap f t-is))
+    next = ap (every f) (triples_next xs k (triple_inside xs h n_is)) ∙ ap (λ (y : Bool). y && every f (drop (suc k) (triples_in xs))) (sym (b_is ∙ ap f t_is))
 
     pub testing_not : not b ≡ true → false ≡ every f (triples_in xs)
     testing_not e = sym (next ∙ ap (λ (y : Bool). y && every f (drop (suc k) (triples_in xs))) (not-true b e)) ∙ testing.rest
@@ -122,13 +122,13 @@ pub ruleset testings = (testing_none, triple_inside, testing_not, testing_more, 
 pub bounds_told : (r : ℕ) (t : Triple) {b : Bool} → r ≤ 30 → b ≡ (leb r 30 && is_in_bounds r t) → b ≡ is_in_bounds r t
 bounds_told r t h e = e ∙ ap (λ (x : Bool). x && is_in_bounds r t) (le-leb r 30 h)
 
-module _ (r : ℕ) (xs : List ℤ) (low : r ≤ 30) {k : ℕ} (testing : Testing (is_in_bounds r) xs k) {n : ℕ} (n_is : n ≡ length xs / 3) (h : k < n) {t : Triple} (t-is : t ≡ triple_at xs k)
+module _ (r : ℕ) (xs : List ℤ) (low : r ≤ 30) {k : ℕ} (testing : Testing (is_in_bounds r) xs k) {n : ℕ} (n_is : n ≡ length xs / 3) (h : k < n) {t : Triple} (t_is : t ≡ triple_at xs k)
     {b : Bool} (b_is : b ≡ (leb r 30 && is_in_bounds r t)) where
   pub bounds_not : not b ≡ true → false ≡ every (is_in_bounds r) (triples_in xs)
-  bounds_not = testing_not (is_in_bounds r) xs testing n_is h t-is (bounds_told r t low b_is)
+  bounds_not = testing_not (is_in_bounds r) xs testing n_is h t_is (bounds_told r t low b_is)
 
   pub bounds_more : not b ≡ false → Testing (is_in_bounds r) xs (k + 1)
-  bounds_more = testing_more (is_in_bounds r) xs testing n_is h t-is (bounds_told r t low b_is)
+  bounds_more = testing_more (is_in_bounds r) xs testing n_is h t_is (bounds_told r t low b_is)
 
 pub ruleset boundings = (testing_none, triple_inside, bounds_not, bounds_more, testing_all)
 
@@ -173,8 +173,8 @@ module _ (o r : ℕ) (xs : List ℤ) (slice : List ℕ) (long : length slice ≡
     gather_less = omega (arith, gathered.same_length)
 
     pub gathered_more : {t : Triple} → t ≡ triple_at xs k → {s : ℕ} → s ≡ place_in (position_of o r t) → Gathered o r xs slice (k + 1) (set work k s)
-    gathered_more t-is {s} s_is =
-        let at : s ≡ get_or (places_of o r (triples_in xs)) k 0 = s_is ∙ ap (λ (u : Triple). place_in (position_of o r u)) t-is ∙ sym (places_at o r (triples_in xs) k (triple_at xs k) _ (triples_next xs k gather_inside)) in
+    gathered_more t_is {s} s_is =
+        let at : s ≡ get_or (places_of o r (triples_in xs)) k 0 = s_is ∙ ap (λ (u : Triple). place_in (position_of o r u)) t_is ∙ sym (places_at o r (triples_in xs) k (triple_at xs k) _ (triples_next xs k gather_inside)) in
         record {
           within = omega (arith, gathered.same_length);
           same_length = simp length-set gathered.same_length;

@@ -24,7 +24,7 @@ use Rattle.sketch.specs.Drawings.{cells_from, draw_call}
 abbrev four : ℤ → ℤ → ℤ → ℕ → List ℤ → List ℤ
 four x y z f l = x ∷ y ∷ z ∷ pos f ∷ l
 
-pub draw-examples :
+pub draw_examples :
     (draw_call 0 1 ≡ told (four (pos 0) (pos 0) (pos 0) 0 (four (pos 0) (pos 1) (pos 0) 1 (four (negsuc 0) (pos 1) (pos 0) 2 (four (pos 0) (pos 1) (negsuc 0) 2 [])))))
     × (draw_call 1 1 ≡ told (four (pos 0) (pos 1) (negsuc 0) 2 (four (negsuc 0) (pos 1) (pos 0) 2 (four (pos 0) (pos 1) (pos 0) 1 (four (pos 0) (pos 0) (pos 0) 0 [])))))
     × (after_call (draw_call 5 1) (replicate 17 (pos 7)) ≡ four (negsuc 0) (pos 1) (pos 0) 2 (four (pos 0) (pos 1) (pos 0) 1 (four (pos 0) (pos 0) (pos 0) 0 (four (pos 0) (pos 1) (negsuc 0) 2 (pos 7 ∷ [])))))
@@ -32,7 +32,7 @@ pub draw-examples :
     × (count_of (draw_call 5 1) (replicate 15 (pos 7)) ≡ refused 10)
     × (after_call (draw_call 5 1) (replicate 15 (pos 7)) ≡ replicate 15 (pos 7))
 unfolding number_of count_of after_call is_in_bounds origin ◌⊕◌ rot rots far toggled letters stroke_of symbol_of symbols_of move corner turned_flavor cell cells corner_sum candidate has_corner_sum triple_of upper mirrored reversed word_of expand_once rows_of fields_of line_of lines_of passes strokes drawing a5_text a5 axiom_motif axiom_of is_backward is_shifted place_from curve_place moved_by shifted drawn_cell named cell_at cell_of cells_from draw_call
-draw-examples = (refl, refl, refl, refl, refl, refl)
+draw_examples = (refl, refl, refl, refl, refl, refl)
 
 -- the refusals in their order
 pub draw_refused : (draw_call 6 0 ≡ refused 23) × (draw_call 6 7 ≡ refused 23) × (draw_call 6 6 ≡ refused 2)

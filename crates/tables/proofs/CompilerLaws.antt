@@ -73,10 +73,10 @@ module _ {text : List ℕ} {s : Source} (ready : Ready text s) where
   pub source_states : 2 * s.count ≡ state_count text
   source_states = ap (λ n. 2 * n) (length_letters ready)
 
-  module _ {k : ℕ} (k-is : k ≡ first (λ _. bad_split (lines_of text)) (lines_of text)) (size start : ℕ) where
+  module _ {k : ℕ} (k_is : k ≡ first (λ _. bad_split (lines_of text)) (lines_of text)) (size start : ℕ) where
     verdict_is : verdict text ≡ fault_at 20 k fine
     unfolding verdict split_tests
-    verdict_is = fine_passes text ready.fair (split_tests (lines_of text)) ∙ (unfold split_tests in rw k-is refl)
+    verdict_is = fine_passes text ready.fair (split_tests (lines_of text)) ∙ (unfold split_tests in rw k_is refl)
 
     pub split_faulty : (k ≡ 0 → ⊥) → faulty (number_of Split) k ≡ compiled_in text size start
     unfolding compiled_in number_of

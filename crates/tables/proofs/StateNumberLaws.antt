@@ -81,29 +81,29 @@ module _ (p : StateParts) (j : ℕ) {z : ℤ} (small : mag z < 2 ^ 31) where
   unfolding number_of
   number_state h e = read_back small e ∙ sym (rw (lt-ltb j 4 h) refl)
 
-  module _ (past-states : 4 ≤ j) where
+  module _ (past_states : 4 ≤ j) where
     pub number_start : j < 12 → z ≡ coordinate_at (get_or p.starts ((j - 4) / 2) no_corner) j → to_z w32 (of_z w32 z) ≡ number_of p j
     unfolding number_of
-    number_start h e = read_back small e ∙ sym (rw (le-ltb j 4 past-states, lt-ltb j 12 h) refl)
+    number_start h e = read_back small e ∙ sym (rw (le-ltb j 4 past_states, lt-ltb j 12 h) refl)
 
-    module _ (past-starts : 12 ≤ j) where
+    module _ (past_starts : 12 ≤ j) where
       pub number_sum : j < 20 → z ≡ coordinate_at (get_or p.sums ((j - 12) / 2) no_corner) j → to_z w32 (of_z w32 z) ≡ number_of p j
       unfolding number_of
-      number_sum h e = read_back small e ∙ sym (rw (le-ltb j 4 past-states, le-ltb j 12 past-starts, lt-ltb j 20 h) refl)
+      number_sum h e = read_back small e ∙ sym (rw (le-ltb j 4 past_states, le-ltb j 12 past_starts, lt-ltb j 20 h) refl)
 
-      module _ (past-sums : 20 ≤ j) where
+      module _ (past_sums : 20 ≤ j) where
         pub number_flavor : j < 24 → z ≡ get_or p.flavors (j - 20) (pos 0) → to_z w32 (of_z w32 z) ≡ number_of p j
         unfolding number_of
-        number_flavor h e = read_back small e ∙ sym (rw (le-ltb j 4 past-states, le-ltb j 12 past-starts, le-ltb j 20 past-sums, lt-ltb j 24 h) refl)
+        number_flavor h e = read_back small e ∙ sym (rw (le-ltb j 4 past_states, le-ltb j 12 past_starts, le-ltb j 20 past_sums, lt-ltb j 24 h) refl)
 
-        module _ (past-flavors : 24 ≤ j) where
+        module _ (past_flavors : 24 ≤ j) where
           pub number_separator : j < 33 → z ≡ factor_at (get_or p.classes.separators ((j - 24) / 3) no_separator) j → to_z w32 (of_z w32 z) ≡ number_of p j
           unfolding number_of
-          number_separator h e = read_back small e ∙ sym (rw (le-ltb j 4 past-states, le-ltb j 12 past-starts, le-ltb j 20 past-sums, le-ltb j 24 past-flavors, lt-ltb j 33 h) refl)
+          number_separator h e = read_back small e ∙ sym (rw (le-ltb j 4 past_states, le-ltb j 12 past_starts, le-ltb j 20 past_sums, le-ltb j 24 past_flavors, lt-ltb j 33 h) refl)
 
           pub number_choice : 33 ≤ j → z ≡ pos (get_or p.classes.choices (j - 33) 0) → to_z w32 (of_z w32 z) ≡ number_of p j
           unfolding number_of
-          number_choice h e = read_back small e ∙ sym (rw (le-ltb j 4 past-states, le-ltb j 12 past-starts, le-ltb j 20 past-sums, le-ltb j 24 past-flavors, le-ltb j 33 h) refl)
+          number_choice h e = read_back small e ∙ sym (rw (le-ltb j 4 past_states, le-ltb j 12 past_starts, le-ltb j 20 past_sums, le-ltb j 24 past_flavors, le-ltb j 33 h) refl)
 
 pub child_token : {p : StateParts} → Tokened p → (j : ℕ) → j < 4 → (get_or p.children j no_child).token < 52
 child_token t j h = t.below j h

@@ -105,14 +105,14 @@ module _ {list starts ends : List ℕ} {o at n : ℕ} (so_far : Checked list sta
         let none : 512 - n ≡ 0 = omega (arith, leb→le 512 most enough) in
         sym (check_long so_far.before (drop at list) some) ∙ ap (λ (k : ℕ). check_from k so_far.before (drop at list)) (sym none) ∙ so_far.ahead
 
-    module _ (small : (i : ℕ) → Fits w8 (get_or list i 0)) {j : Judged} (j-is : j ≡ judge_by o (take n starts) (take n ends) (read_of (take (length list - at) (drop at list)))) where
+    module _ (small : (i : ℕ) → Fits w8 (get_or list i 0)) {j : Judged} (j_is : j ≡ judge_by o (take n starts) (take n ends) (read_of (take (length list - at) (drop at list)))) where
       small_rest : (i : ℕ) → Fits w8 (get_or (drop at list) i 0)
       small_rest i = rw (get_or-drop at list i 0) (small (at + i))
 
       is : judge_of so_far.before (read_of (drop at list)) ≡ j
       is =
           sym
-          (j-is ∙ ap (λ (l : List ℕ). judge_by o (take n starts) (take n ends) (read_of l)) (all_from list at)
+          (j_is ∙ ap (λ (l : List ℕ). judge_by o (take n starts) (take n ends) (read_of l)) (all_from list at)
           ∙ judged_same so_far.before o (take n starts) (take n ends) so_far.kept (read_of (drop at list)) (λ x e. (read_stands (drop at list) small_rest e).shallow))
 
       pub checked_faulty : n < 512 → {f : Fault} → j ≡ Judged.Wrong f → told (faulty f n) ≡ check_of list
@@ -151,14 +151,14 @@ module _ {list starts ends : List ℕ} {o at n : ℕ} (so_far : Checked list sta
 
         pub checked_next : n < 512 → {a b : ℕ} → a ≡ beginning x.resolution x.s → b ≡ beginning x.resolution (x.s + 1)
             → {s t : List ℕ} → s ≡ set starts n a → t ≡ set ends n b → Checked list s t x.orientation (at + x.used) (n + 1)
-        checked_next room {a} {b} a-is b_is s_is t-is =
+        checked_next room {a} {b} a_is b_is s_is t_is =
             let next = kept_next so_far.before x so_far.kept right_shallow fine.oriented in
             let b_end : b ≡ end_of x = b_is ∙ ap (beginning x.resolution) (add-one x.s) in
             let s : take (n + 1) (set starts n a) ≡ take n starts ++ (start_of x ∷ []) =
-            ap (λ (k : ℕ). take k (set starts n a)) (add-one n) ∙ take-suc-set starts n a (omega (arith, so_far.starts_long)) ∙ ap (λ (v : ℕ). take n starts ++ (v ∷ [])) a-is in
+            ap (λ (k : ℕ). take k (set starts n a)) (add-one n) ∙ take-suc-set starts n a (omega (arith, so_far.starts_long)) ∙ ap (λ (v : ℕ). take n starts ++ (v ∷ [])) a_is in
             let t : take (n + 1) (set ends n b) ≡ take n ends ++ (end_of x ∷ []) =
             ap (λ (k : ℕ). take k (set ends n b)) (add-one n) ∙ take-suc-set ends n b (omega (arith, so_far.ends_long)) ∙ ap (λ (v : ℕ). take n ends ++ (v ∷ [])) b_end in
-            rw (s_is, t-is)
+            rw (s_is, t_is)
             record {
               before = so_far.before ++ (x ∷ []);
               count = length-append so_far.before (x ∷ []) ∙ ap (λ (k : ℕ). k + 1) so_far.count;

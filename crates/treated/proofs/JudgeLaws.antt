@@ -95,9 +95,9 @@ module _ (o : ℕ) (starts ends : List ℕ) (x : Reading) where
     unfolding judge_reading
     judged_strayed t = rw (new, ← d_is, t)
 
-    module _ (same : d ≡ false) {a b : ℕ} (a-is : a ≡ beginning x.resolution x.s) (b_is : b ≡ beginning x.resolution (x.s + 1)) {m : Bool} (m-is : m ≡ touches starts ends a b) where
+    module _ (same : d ≡ false) {a b : ℕ} (a_is : a ≡ beginning x.resolution x.s) (b_is : b ≡ beginning x.resolution (x.s + 1)) {m : Bool} (m_is : m ≡ touches starts ends a b) where
       met : touches starts ends (start_of x) (end_of x) ≡ m
-      met = sym (m-is ∙ ap₂ (touches starts ends) a-is (b_is ∙ ap (beginning x.resolution) (add-one x.s)))
+      met = sym (m_is ∙ ap₂ (touches starts ends) a_is (b_is ∙ ap (beginning x.resolution) (add-one x.s)))
 
       pub judged_overlap : m ≡ true → Judged.Wrong Overlap ≡ judge_reading o starts ends x
       unfolding judge_reading

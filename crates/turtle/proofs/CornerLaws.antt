@@ -130,10 +130,10 @@ corner_sum_unique t u g h e =
     let ux = v_var u.x in
     let uy = v_var u.y in
     let uz = v_var u.z in
-    let t-low = le_of (search view) (search view) tt (good_of t g).0 in
-    let t-high = le_of (search view) (search view) tt (good_of t g).1 in
-    let u-low = le_of (search view) (search view) tt (good_of u h).0 in
-    let u-high = le_of (search view) (search view) tt (good_of u h).1 in
+    let t_low = le_of (search view) (search view) tt (good_of t g).0 in
+    let t_high = le_of (search view) (search view) tt (good_of t g).1 in
+    let u_low = le_of (search view) (search view) tt (good_of u h).0 in
+    let u_high = le_of (search view) (search view) tt (good_of u h).1 in
     let ea = eq_of (search view depth 12) (search view depth 12) tt (ap (λ (p : AB). p.a) e) in
     let eb = eq_of (search view depth 12) (search view depth 12) tt (ap (λ (p : AB). p.b) e) in
     triple_is (eq_by tx ux tt (omega arith)) (eq_by ty uy tt (omega arith)) (eq_by tz uz tt (omega arith))
@@ -145,12 +145,12 @@ corner_sum_near t wx wy g =
     let x = v_var t.x in
     let y = v_var t.y in
     let z = v_var t.z in
-    let s-low = le_of (search view) (search view) tt (good_of t g).0 in
-    let s-high = le_of (search view) (search view) tt (good_of t g).1 in
-    let x-low = le_of (search view) (search view) tt wx.low in
-    let x-high = le_of (search view) (search view) tt wx.high in
-    let y-low = le_of (search view) (search view) tt wy.low in
-    let y-high = le_of (search view) (search view) tt wy.high in
+    let s_low = le_of (search view) (search view) tt (good_of t g).0 in
+    let s_high = le_of (search view) (search view) tt (good_of t g).1 in
+    let x_low = le_of (search view) (search view) tt wx.low in
+    let x_high = le_of (search view) (search view) tt wx.high in
+    let y_low = le_of (search view) (search view) tt wy.low in
+    let y_high = le_of (search view) (search view) tt wy.high in
     sym (far_false (corner_sum t) (record {
       a = record { low = le_by (search view depth 12) (search view depth 12) tt (omega arith); high = le_by (search view depth 12) (search view depth 12) tt (omega arith) };
       b = record { low = le_by (search view depth 12) (search view depth 12) tt (omega arith); high = le_by (search view depth 12) (search view depth 12) tt (omega arith) };

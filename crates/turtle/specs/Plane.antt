@@ -6,8 +6,8 @@ use Rattle.turtle.specs.declared.AB.{AB}
 abbrev pub ab : ℤ → ℤ → AB
 ab a b = record { a = a; b = b }
 
-abbrev pub equal_aB : AB → AB → Bool
-equal_aB p q = equal p.a q.a && equal p.b q.b
+abbrev pub equal_ab : AB → AB → Bool
+equal_ab p q = equal p.a q.a && equal p.b q.b
 
 unfoldable pub origin : AB
 origin = ab (pos 0) (pos 0)

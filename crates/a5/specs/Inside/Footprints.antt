@@ -1,7 +1,7 @@
 -- The footprints of A5's states in units of triangles: three numbers a state are written here, and all else is read off A5's table.
 -- A cell is seen by three whole numbers, x, y and g: x - 1, y and - z of its triple, which are b, a and a + b of its corner sum over 12, rounded down.
--- A state with 1 + m passes is of the scale n = 2 ^ m. Seen from the state's start its cells begin at - before-x k * n in x, at - before-y k * n in y and
--- at - before-g k * n in g. Counted from there they are in ℕ: a cell is a spot of the footprint (`Spots`).
+-- A state with 1 + m passes is of the scale n = 2 ^ m. Seen from the state's start its cells begin at - before_x k * n in x, at - before_y k * n in y and
+-- at - before_g k * n in g. Counted from there they are in ℕ: a cell is a spot of the footprint (`Spots`).
 use Rattle.std.specs.Prelude.{cond, [], ◌∷◌, ℕ, ◌+◌, ◌-◌, ◌*◌, ◌/◌, eqb, ℤ, pos, nat_abs, ◌+ℤ◌, get_or}
 use Rattle.std.specs.Int.Signed.{quot_z}
 use Rattle.tables.specs.Descent.{offset_at, sum_at, flavor_at}
