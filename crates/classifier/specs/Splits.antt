@@ -1,6 +1,6 @@
 -- Which child a point belongs to: lines that separate the children's footprints, and the child for each side of them.
 use Rattle.std.specs.Prelude.{Bool, true, false, not, ◌&&◌, cond, List, [], ◌∷◌, ◌++◌, ℕ, zero, suc, ◌/◌, ◌%◌, ◌^◌, eqb, ltb, ℤ, pos, neg_ℤ, ◌+ℤ◌, ◌-ℤ◌, ◌*ℤ◌, length}
-use Rattle.std.proofs.Math.Option.{Option, none, some}
+use mathlib.Core.Option.{Option, none, some}
 use Rattle.std.specs.Int.Signed.{le_z}
 use Rattle.turtle.specs.declared.AB.{AB}
 use Rattle.whole.specs.Tests.{equal}

@@ -1,10 +1,9 @@
 -- WHAT WAS ASKED, over the public definitions alone: a record for each subject, in the order of the requirements, and a field for each sentence.
 -- That the functions answer what the definitions say is in their contracts; that the records hold is in proofs/, a theorem for each.
-use Rattle.std.specs.Prelude.{◌≡◌, ◌↔◌, Bool, true, false, ◌&&◌, ◌||◌, ℕ, ◌+◌, ◌-◌, ◌*◌, ◌/◌, ◌%◌, ◌^◌, ◌<◌, ◌≤◌, T, eqb, ℤ, pos, negsuc, Float, take, drop}
+use Rattle.std.specs.Prelude.{◌≡◌, ◌↔◌, Bool, true, false, ◌&&◌, ◌||◌, ℕ, ◌+◌, ◌-◌, ◌*◌, ◌/◌, ◌%◌, ◌^◌, ◌<◌, ◌≤◌, T, eqb, ℤ, pos, negsuc, Float, length, take, drop}
 use mathlib.Core.List.{List, [], ◌∷◌, ◌++◌}
 use Rattle.std.specs.Float.{fin, binary64}
 use Rattle.std.specs.Float.Ieee.{fits}
-use Rattle.std.proofs.Math.ListN.{length}
 use Rattle.triple.specs.declared.Triple.{Triple}
 use Rattle.triple.specs.Refusals.{Told, told, refused, ◌>>=◌}
 use Rattle.triple.specs.Triples.{good_sum, is_in_bounds, parity_of, closed_flavor, flavor_of}

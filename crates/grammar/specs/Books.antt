@@ -1,6 +1,6 @@
 -- A book of words: which word each motif's letter has, as parts of one slice of bytes.
 use Rattle.std.specs.Prelude.{cond, List, ℕ, zero, suc, min, eqb, get_or, take, drop}
-use Rattle.std.proofs.Math.Option.{Option, none, some}
+use mathlib.Core.Option.{Option, none, some}
 use Rattle.grammar.specs.declared.word.Book.{Book}
 
 -- the word of row i: so many bytes from a place on, or as many as there are

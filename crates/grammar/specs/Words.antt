@@ -1,6 +1,6 @@
 -- Words of bytes: reversal, and one expansion pass.
 use Rattle.std.specs.Prelude.{Bool, ◌&&◌, cond, List, [], ◌∷◌, ◌++◌, map, reverse, ℕ, ◌+◌, ◌-◌, leb, eqb}
-use Rattle.std.proofs.Math.Option.{Option, none, some}
+use mathlib.Core.Option.{Option, none, some}
 
 abbrev pub is_lower : ℕ → Bool
 is_lower b = leb 97 b && leb b 122

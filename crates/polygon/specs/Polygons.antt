@@ -1,6 +1,6 @@
 -- A cell as a polygon of its corners, by document 02: the corners, their text, what a writer gives and what a reader answers.
 use Rattle.std.specs.Prelude.{Bool, true, false, not, ◌&&◌, cond, List, [], ◌∷◌, ◌++◌, ℕ, ◌+◌, eqb, pos, negsuc, ◌+ℤ◌, ◌-ℤ◌}
-use Rattle.std.proofs.Math.Option.{Option, some, none}
+use mathlib.Core.Option.{Option, some, none}
 use Rattle.std.specs.Int.Signed.{quot_z}
 use Rattle.whole.specs.Tests.{equal, pass}
 use Rattle.triple.specs.declared.Triple.{Triple}

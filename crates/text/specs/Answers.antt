@@ -1,5 +1,5 @@
 -- What each answer of this crate says: the number that was read, or none.
-use Rattle.std.proofs.Math.Option.{Option, some, none}
+use mathlib.Core.Option.{Option, some, none}
 use Rattle.std.specs.Prelude.{ℕ, ℤ, Float}
 use Rattle.text.specs.declared.number.ByteWord.{ByteWord}
 use Rattle.text.specs.declared.number.NaturalWord.{NaturalWord}

@@ -1,6 +1,6 @@
 -- Decimals without leading zeros or -0: read from a word and at a place, and written.
 use Rattle.std.specs.Prelude.{Bool, false, not, ◌&&◌, cond, List, [], ◌∷◌, ℕ, zero, suc, ◌+◌, ◌-◌, ◌/◌, ◌%◌, ◌^◌, leb, ltb, eqb, ℤ, pos, negsuc, take, drop}
-use Rattle.std.proofs.Math.Option.{Option, some, none}
+use mathlib.Core.Option.{Option, some, none}
 use Rattle.text.specs.Digits.{digit_of, all_digits, value_after}
 
 -- ---- read

@@ -1,6 +1,6 @@
 -- The bits of an f64 as 16 uppercase hex digits.
 use Rattle.std.specs.Prelude.{◌&&◌, cond, List, [], ◌∷◌, ◌++◌, ℕ, zero, suc, ◌/◌, ◌%◌, eqb, Float, length}
-use Rattle.std.proofs.Math.Option.{Option, some, none}
+use mathlib.Core.Option.{Option, some, none}
 use Rattle.std.specs.Float.{binary64}
 use Rattle.std.specs.Float.Ieee.{of_bits, to_bits}
 use Rattle.text.specs.Digits.{digit_byte, all_digits, value_after}

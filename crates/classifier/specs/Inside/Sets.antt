@@ -1,6 +1,6 @@
 -- What the code has on its way to a classifier: a set of children, the line that is found, the lines that are gathered.
 use Rattle.std.specs.Prelude.{◌≡◌, Bool, true, false, not, cond, ◌&&◌, List, [], ◌∷◌, ℕ, zero, suc, ◌+◌, ◌≤◌, ltb, ℤ, neg_ℤ, ◌+ℤ◌, length, get_or, take}
-use Rattle.std.proofs.Math.Option.{Option, none, some}
+use mathlib.Core.Option.{Option, none, some}
 use Rattle.turtle.specs.declared.AB.{AB}
 use Rattle.turtle.specs.Plane.{origin}
 use Rattle.turtle.specs.Inside.Sizes.{Within}

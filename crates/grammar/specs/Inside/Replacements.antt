@@ -1,6 +1,6 @@
 -- What stands in a byte's place after a pass, by the part of the book's words that it is made of.
 use Rattle.std.specs.Prelude.{List, [], ◌∷◌, ℕ, ◌-◌, ◌≤◌, take, drop}
-use Rattle.std.proofs.Math.Option.{Option, none, some}
+use mathlib.Core.Option.{Option, none, some}
 use Rattle.grammar.specs.Words.{reversed}
 use Rattle.grammar.specs.declared.word.Part.{Part}
 use Rattle.grammar.specs.declared.word.FoundWord.{FoundWord}

@@ -1,6 +1,6 @@
 -- Digits of any base, read one by one.
 use Rattle.std.specs.Prelude.{◌&&◌, cond, List, ℕ, leb}
-use Rattle.std.proofs.Math.Option.{Option, some, none}
+use mathlib.Core.Option.{Option, some, none}
 use Rattle.text.specs.Digits.{all_digits, value_after}
 
 -- the number that the digits w write after v, where it is at most a bound
