@@ -1,4 +1,5 @@
 -- `tally::draw_byte` tells what a byte of a draw is: each arm by computation, the rest is no letter.
+use borrow.Author.Rules.{rules}
 use Rattle.turtle.specs.Letters.{toggled, letters, stroke_of}
 use Rattle.turtle.specs.Walk.{symbol_of}
 use Rattle.grammar.specs.Words.{upper}
@@ -56,4 +57,4 @@ returns-in-116 c = draw_at c.in-116.is lettered
 
 pub returns-in_default : goal.returns-in_default
 unfolding letters
-returns-in_default c = draw_nothing c.if-b-eq43.false c.if-b-eq45.false c.in_default.in_default-own.rest
+returns-in_default c = search (rules, draw_nothing)

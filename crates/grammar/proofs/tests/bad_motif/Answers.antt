@@ -1,4 +1,5 @@
 -- `text::bad_motif` is test 13: by the letter's range, the five that are not free, and the lines before.
+use borrow.Author.Rules.{rules}
 use native.Mathlib.Omega.{arith}
 use Rattle.grammar.specs.Inside.Places.{line_at, lines_from}
 use Rattle.grammar.proofs.VerdictLaws.{motif_low, motif_high, motif_reserved, motif_named, named_before}
@@ -29,4 +30,4 @@ pub returns-in-84 : goal.returns-in-84
 returns-in-84 c = λ text. motif_reserved (lines_from text c.args.lines c.args.i 0) (line_at text c.args.lines c.args.i) 84 c.in-84.is tt
 
 pub returns-in_default : goal.returns-in_default
-returns-in_default c = λ text. motif_named (lines_from text c.args.lines c.args.i 0) (line_at text c.args.lines c.args.i) c.if-b-lt65.false c.if-b-gt90.false c.in_default.in_default-own.rest (named_before text c.args.lines _ _ c.is_named.ensures)
+returns-in_default c = λ text. motif_named (lines_from text c.args.lines c.args.i 0) (line_at text c.args.lines c.args.i) c.if-b-lt65.false c.if-b-gt90.false (search rules) (named_before text c.args.lines _ _ c.is_named.ensures)

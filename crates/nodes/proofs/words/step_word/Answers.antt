@@ -1,5 +1,6 @@
 -- `words::step_word` is its list of words: each arm by the number that it matched, the rest by `past`.
-use Rattle.std.proofs.Common.{sym, ap}
+use borrow.Author.Rules.{rules}
+use Rattle.std.proofs.Common.{◌≤◌, sym, ap}
 use lib.ListN.{get_or-eq_default}
 use Rattle.whole.proofs.Arms.{past}
 use Rattle.nodes.specs.Inside.Words.{step_word, step_words}
@@ -119,4 +120,4 @@ returns-in-27 c = ap step_word (sym c.in-27.is)
 
 pub returns-in_default : goal.returns-in_default
 unfolding step_word step_words
-returns-in_default c = sym (get_or-eq_default step_words 0 (past 28 _ c.in_default.in_default-own.rest))
+returns-in_default c = let h : 28 ≤ c.args.state = search (rules, past) in sym (get_or-eq_default step_words 0 h)

@@ -1,4 +1,5 @@
 -- `word::rule_of`: each arm has A5's rule for its letter, and no other byte has one.
+use borrow.Author.Rules.{rules}
 use mathlib.Core.Path.{refl}
 use Rattle.text.specs.Words.{words_of as fields_of}
 use Rattle.grammar.specs.Texts.{rows_of, line_of, lines_of}
@@ -37,4 +38,4 @@ returns-in-82 c = rule_arm c.in-82.is c.written-in-82.ensures refl
 
 pub returns-in_default : goal.returns-in_default
 unfolding rule_word a5 a5_text lines_of rows_of fields_of line_of
-returns-in_default c = rule_rest (record { is = c.in_default.in_default-own.rest }) c.written-in_default.ensures
+returns-in_default c = search (rules, rule_rest)

@@ -1,4 +1,5 @@
 -- A byte's digit: each arm by the byte that it matched, the rest by `other_byte`.
+use borrow.Author.Rules.{rules}
 use mathlib.Core.Path.{sym, ap}
 use Rattle.text.specs.Digits.{digit_of}
 use Rattle.text.proofs.NumberLaws.{other_byte}
@@ -70,4 +71,4 @@ returns-in-70 c = ap digit_of (sym c.in-70.is)
 
 pub returns-in_default : goal.returns-in_default
 unfolding digit_of
-returns-in_default c = other_byte _ c.in_default.in_default-own.rest
+returns-in_default c = search (rules, other_byte)

@@ -1,4 +1,5 @@
 -- `letter::stroke_of` looks the byte up among the ten rows: each arm is its row, the rest is a byte of no row.
+use borrow.Author.Rules.{rules}
 use mathlib.Core.Path.{refl}
 use Rattle.turtle.specs.Letters.{toggled, letters, stroke_of}
 use Rattle.turtle.proofs.LetterLaws.{letter_at, no_letter}
@@ -166,4 +167,4 @@ returns-in-116 c = letter_at c.in-116.is c.new-in-116.ensures c.new-in-116-2.ens
 
 pub returns-in_default : goal.returns-in_default
 unfolding letters
-returns-in_default c = no_letter _ c.in_default.in_default-own.rest
+returns-in_default c = search (rules, no_letter)
