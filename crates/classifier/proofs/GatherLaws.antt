@@ -210,7 +210,7 @@ module _ {gs : List Polygon} {s : Separator} {g more : Gathered} {a : List Polyg
 
     pub through_split : {r : Gathered} → Through b over r → Through gs g r
     unfolding collected whole
-    through_split {r} by-b = record { by = go }
+    through_split {r} by_b = record { by = go }
       where
         go : (n : ℕ) → length gs ≤ suc n → r ≡ gathered_by (collected (gathered_lines g) (tree_of n gs)) (g.whole && whole (tree_of n gs))
         go zero h = let z : ⊥ = omega (arith, f.two) in absurd z
@@ -218,7 +218,7 @@ module _ {gs : List Polygon} {s : Separator} {g more : Gathered} {a : List Polyg
             let e = over_is n h in
             let short : length (collected (with_separator (gathered_lines g) s) (tree_of n a)) ≤ 3 = omega (arith, over_few n, kept_count f.kept, first_less, f.room) in
             let t : tree_of (suc n) gs ≡ split s (tree_of n a) (tree_of n b) = rw (a_is, b_is) (tree_split n gs f.two f.found) in
-            by-b.by n (omega (arith, second_less))
+            by_b.by n (omega (arith, second_less))
             ∙ ap₂ (λ (ss : List Separator) (w : Bool). gathered_by (collected ss (tree_of n b)) (w && whole (tree_of n b))) (lines_are (collected (with_separator (gathered_lines g) s) (tree_of n a)) e short) (whole_is (collected (with_separator (gathered_lines g) s) (tree_of n a)) e short)
             ∙ rw t (ap (gathered_by (collected (collected (with_separator (gathered_lines g) s) (tree_of n a)) (tree_of n b))) (in_turn g.whole (whole (tree_of n a)) (whole (tree_of n b))))
 

@@ -34,7 +34,7 @@ use Rattle.tables.specs.Verdicts.{bad_split, split_tests, verdict}
 use Rattle.lsystem.specs.declared.cell.Cell.{Cell}
 use Rattle.lsystem.specs.Cells.{named, cell_of, position_of}
 use Rattle.lsystem.specs.Looks.{with_looks, located_of}
-use Rattle.lsystem.proofs.Numbering.{numbers as Numbers-of}
+use Rattle.lsystem.proofs.Numbering.{numbers as Numbers_of}
 use Rattle.sketch.specs.Drawings.{draw_call}
 use Rattle.sketch.proofs.DrawLaws.{cells_told}
 use Rattle.nodes.specs.declared.Node.{Node}
@@ -84,7 +84,7 @@ module _ {numbers : List ℕ} (o r : ℕ) where
       by_test (ltb 30 r) Is.Resolution resolution λ k.
       by_test (ltb 5 o) Is.Orientation orientation λ h.
       by_test (leb (4 ^ r) s) Is.Position below λ l.
-      by_answer ((Numbers-of o r (ltb-false 5 o h) (ltb-false 30 r k)).cell_is s (leb-false (4 ^ r) s l))
+      by_answer ((Numbers_of o r (ltb-false 5 o h) (ltb-false 30 r k)).cell_is s (leb-false (4 ^ r) s l))
 
   position : (t : Triple) → T (is_among 1 numbers) → T (is_among 2 numbers) → T (is_among 4 numbers) → T (is_among 5 numbers) → AnsweredOr numbers (position_of o r t)
   unfolding position_of number_of
@@ -93,7 +93,7 @@ module _ {numbers : List ℕ} (o r : ℕ) where
       by_test (ltb 5 o) Is.Orientation orientation λ h.
       by_test (not (good_sum t)) Is.Sum sum λ g.
       by_test (not (is_in_bounds r t)) Is.Bounds bounds λ b.
-      by_answer ((Numbers-of o r (ltb-false 5 o h) (ltb-false 30 r k)).finds t (not-false (is_in_bounds r t) b))
+      by_answer ((Numbers_of o r (ltb-false 5 o h) (ltb-false 30 r k)).finds t (not-false (is_in_bounds r t) b))
 
 located : (o r : ℕ) (t : Triple) → AnsweredOr (1 ∷ 2 ∷ 4 ∷ 5 ∷ []) (located_of o r t)
 unfolding located_of with_looks

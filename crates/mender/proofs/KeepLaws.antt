@@ -39,9 +39,9 @@ module _ {d : List ℕ} {from end : ℕ} {piece : List ℕ} {k : ℕ} (kept : Ke
     less = omega arith
 
     pub kept_next : {v : ℕ} → v ≡ get_or piece (from + k) 0 → Kept d from end (set piece k v) (k + 1)
-    kept_next {v} v-is =
+    kept_next {v} v_is =
         let there : v ≡ get_or (drop from d) k 0 =
-        v-is ∙ (let turn : from + k ≡ k + from = omega arith in ap (λ (i : ℕ). get_or piece i 0) turn ∙ unchanged 0 from ∙ ap (λ (i : ℕ). get_or d i 0) (sym turn)) ∙ sym (get_or-drop from d k 0) in
+        v_is ∙ (let turn : from + k ≡ k + from = omega arith in ap (λ (i : ℕ). get_or piece i 0) turn ∙ unchanged 0 from ∙ ap (λ (i : ℕ). get_or d i 0) (sym turn)) ∙ sym (get_or-drop from d k 0) in
         record {
           before = kept.before;
           inside = kept.inside;

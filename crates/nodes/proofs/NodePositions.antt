@@ -12,7 +12,7 @@ use lib.Ieee.Casts.{to_signed_cut}
 use lib.Ieee.Back.{Float-back_signed}
 use mir.ValLaws.{to_z-of_z}
 use Rattle.whole.proofs.Bools.{is_true, is_false, from_true}
-use Rattle.whole.proofs.View.{view, v_abs, fits as seen-fits}
+use Rattle.whole.proofs.View.{view, v_abs, fits as seen_fits}
 use Rattle.whole.proofs.Floats.{within, in_range, out_low, out_high, castable, cut_small, cut_fits, within_not_nan, signed_size, is_below, int_value, int_in, value_not_nan, same_bits}
 use Rattle.nodes.specs.Nodes.{good_position}
 
@@ -138,7 +138,7 @@ module _ (x : Float) (low : le (fin true 1 (pos 36)) x ≡ true) (high : le x (f
     cut_not_nan = rw cut_read (value_not_nan _ _ _ _ (int_value t (N.le_trans cut_size (lit≤ tt))))
 
     pub cut_quarter : SFits w64 (quot_z (to_z w64 (of_z w64 t)) (pos 4))
-    cut_quarter = rw cut_read (let v = v_abs t (2 ^ 36) cut_size in seen-fits (search view) tt)
+    cut_quarter = rw cut_read (let v = v_abs t (2 ^ 36) cut_size in seen_fits (search view) tt)
 
     module _ (f : T (fits binary64 x)) where
       pub position_other : (to_bits binary64 (of_int binary64 (to_z w64 (of_z w64 t))) ≡ to_bits binary64 x → ⊥) → false ≡ good_position x
