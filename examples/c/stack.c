@@ -49,14 +49,15 @@ static void wkt_read(void) { hb_wkt_read(30, polygon, HB_WKT_BYTES, numbers, 6);
 static void descend(void) { hb_descend(table, HB_TABLE_NUMBERS, 0, 28, 30, 13, LAST, sums, 3); }
 static void compile(void) { hb_compile((const uint8_t *)A5, sizeof A5 - 1, table, HB_TABLE_NUMBERS, 0, out, 4); }
 
-/* Two triples whose positions differ in the last bit alone, the greater first: no report goes deeper. */
+/* Two positions that differ in the last bit alone, by turns, the greater first, and more of them than are put
+ * in order without parting them: no report goes deeper. */
 static void area_report(void)
 {
-    uint64_t work[2];
-    int32_t cells[8] = {0};
-    hb_cell(5, 30, 1, cells, 4);
-    hb_cell(5, 30, 0, cells + 3, 4);
-    hb_area_report(5, 30, cells, 6, work, 2, made, 4, out, 4);
+    static uint64_t work[65];
+    static int32_t cells[3 * 65 + 1];
+    for (int k = 0; k < 65; k++)
+        hb_cell(5, 30, (k + 1) % 2, cells + 3 * k, 4);
+    hb_area_report(5, 30, cells, 3 * 65, work, 65, made, 192, out, 4);
 }
 
 static void line(void)

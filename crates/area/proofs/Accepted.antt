@@ -27,9 +27,9 @@ pub record Area (xs : List ℕ) : Type 0 where
   pub laid : Laid 30 0 (cells_in xs)
 
 module _ (a b : List ℕ) where
-  pub tested_told : {A : Type 0} (said : Told A) {x : A} → tested a b said ≡ told x → Area a × Area b × (said ≡ told x)
+  pub tested_told : {A : Type 0} (says : Told A) {x : A} → tested a b says ≡ told x → Area a × Area b × (says ≡ told x)
   unfolding tested ordered
-  tested_told said e =
+  tested_told says e =
       let deep = passed (not (shallow 30 (cells_in a) && shallow 30 (cells_in b))) Is.Resolution e in
       let past = passed (not (inside (cells_in a) && inside (cells_in b))) Is.Position deep.1 in
       let order = passed (not (ordered 30 a && ordered 30 b)) Is.Order past.1 in
@@ -43,9 +43,9 @@ module _ (a b : List ℕ) where
         order.1,
       )
 
-  pub tested_taken : {A : Type 0} (said : Told A) → Area a → Area b → tested a b said ≡ said
+  pub tested_taken : {A : Type 0} (says : Told A) → Area a → Area b → tested a b says ≡ says
   unfolding tested ordered
-  tested_taken said x y =
+  tested_taken says x y =
       let tidy : (xs : List ℕ) → Area xs → ordered 30 xs ≡ true =
       λ xs z. ap₂ (λ (u v : Bool). u && v) (eq-eqb (length xs % 2) 0 z.even) (laid_apart 30 0 (cells_in xs) z.laid) in
       simp (
@@ -57,9 +57,9 @@ module _ (a b : List ℕ) where
         tidy b y,
       )
 
-  pub tested_turned : {A : Type 0} (said : Told A) → tested a b said ≡ tested b a said
+  pub tested_turned : {A : Type 0} (says : Told A) → tested a b says ≡ tested b a says
   unfolding tested
-  tested_turned said =
+  tested_turned says =
       rw (
         and_comm (shallow 30 (cells_in a)) (shallow 30 (cells_in b)),
         and_comm (inside (cells_in a)) (inside (cells_in b)),

@@ -2,26 +2,28 @@
 use mathlib.Core.Bool.{Bool, true, false, not, cond, ◌&&◌, true≢false}
 use mathlib.Core.Path.{◌≡◌, refl, sym, ap, ◌∙◌}
 use mathlib.Core.List.{List, [], ◌∷◌, ◌++◌}
-use Prim.Native.Nat.{ℕ, ◌*◌, ◌/◌, ◌≤◌, ◌<◌}
+use Prim.Native.Nat.{ℕ, ◌*◌, ◌/◌, ◌≤◌, ◌<◌, min}
 use native.Mathlib.Omega.{arith}
-use native.Mathlib.Decide.{dec_lt, dec_le}
+use native.Mathlib.Decide.{dec_le}
 use lib.Dec.{ltb, leb, eqb}
 use lib.ListN.{length, drop}
 use borrow.Author.Tests.{le-ltb, lt-ltb, le-leb, leb-true, leb-false, not-true, not-false}
+use Rattle.triple.specs.declared.refusal.Refusal.{Refusal}
 use Rattle.triple.specs.declared.refusal.Refusal.TheVariants as Is
 use Rattle.triple.specs.Refusals.{Told, told, refused, number_of}
 use Rattle.triple.specs.Lent.{valued, count_of, after_call, Counted}
 use Rattle.triple.proofs.LentLaws.{count_short, count_whole, refused_count, refused_kept}
+use Rattle.fold.specs.declared.pairs.Fault.{Fault}
+use Rattle.fold.specs.declared.pairs.Fault.TheVariants as Test
 use Rattle.fold.specs.Cells.{pairs, cells_in}
-use Rattle.fold.specs.Unfolds.{shallow, inside, ordered, passes, unfold_of, unfold_call}
-use Rattle.fold.specs.Inside.Pairs.{Tested}
+use Rattle.fold.specs.Unfolds.{shallow, inside, ordered, passes, passed_before, refusal_for, unfold_of, unfold_call}
 use Rattle.whole.proofs.Bools.{both_true}
 use Rattle.fold.proofs.PairLaws.{length_pairs}
-use Rattle.fold.proofs.PairTestLaws.{ordered_laid}
+use Rattle.fold.proofs.PairTestLaws.{passes_tested}
 use Rattle.area.specs.declared.operation.Operation.{Operation}
 use Rattle.area.specs.declared.operation.Operation.TheVariants as For
 use Rattle.area.specs.Areas.{tested, made_of, made_call, size_call, contained, contains_call}
-use Rattle.area.specs.Inside.Rooms.{Areas, Walkable, ample}
+use Rattle.area.specs.Inside.Rooms.{ample}
 use Rattle.area.proofs.ContainLaws.{contained_left}
 use Rattle.area.proofs.RoomLaws.{ample_room}
 
@@ -96,43 +98,34 @@ module _ (r : ℕ) (xs : List ℕ) {n : ℕ} (e : n ≡ passes r xs) where
   tidy_yes : 3 ≤ n → o ≡ true
   tidy_yes h = third s i o (rw (← is_count) h)
 
-  passed_all : 3 ≤ n → Tested r xs
-  passed_all h =
-      let d = both_true (leb r 30) (shallow r (cells_in xs)) (deep_yes (omega arith)) in
-      record { low = leb-true r 30 d.0; laid = ordered_laid r xs d.1 (low_yes (omega arith)) (tidy_yes h) }
+-- no more than three
+most : (s i o : Bool) → number s i o ≤ 3
+most true true true = omega arith
+most true true false = omega arith
+most true false o = omega arith
+most false i o = omega arith
+
+passes_most : (xs : List ℕ) → passes 30 xs ≤ 3
+unfolding passes
+passes_most xs = most (leb 30 30 && shallow 30 (cells_in xs)) (inside (cells_in xs)) (ordered 30 xs)
 
 -- ---- two lists
--- the lesser of two counts, as the code finds it
-pub lesser_first : (x y : ℕ) → x < y → x ≡ cond (ltb x y) x y
-lesser_first x y h = rw (lt-ltb x y h)
-
-pub lesser_second : (x y : ℕ) → y ≤ x → y ≡ cond (ltb x y) x y
-lesser_second x y h = rw (le-ltb x y h)
-
-pub ruleset lessers = (lesser_first, lesser_second)
-
-lesser_cases : (x y : ℕ) {z : ℕ} → z ≡ cond (ltb x y) x y → (z ≤ x) × (z ≤ y) × ((z ≡ x → ⊥) → z ≡ y)
-lesser_cases x y e = elim (dec_lt x y) [
-  | yes h ↦ (let f = rw (lt-ltb x y h) at e in (omega arith, omega arith, λ g. absurd (g f)))
-  | no h ↦ (let f = rw (le-ltb x y (omega arith)) at e in (omega arith, omega arith, λ g. f))
-]
-
 and_no : (x y : Bool) → ((x ≡ false → ⊥) → y ≡ false) → (x && y) ≡ false
 and_no false y f = refl
 and_no true y f = f (λ e. true≢false e)
 
-module _ (a b : List ℕ) {x y z : ℕ} (ex : x ≡ passes 30 a) (ey : y ≡ passes 30 b) (ez : z ≡ cond (ltb x y) x y) where
+module _ (a b : List ℕ) {x y z : ℕ} (ex : x ≡ passes 30 a) (ey : y ≡ passes 30 b) (ez : z ≡ min x y) where
   fact : (z ≤ x) × (z ≤ y) × ((z ≡ x → ⊥) → z ≡ y)
-  fact = lesser_cases x y ez
+  fact = (omega arith, omega arith, λ f. omega arith)
 
-  module _ {A : Type 0} (said : Told A) where
-    tested_deep : z ≡ 0 → refused (number_of Is.Resolution) ≡ tested a b said
+  module _ {A : Type 0} (says : Told A) where
+    tested_deep : z ≡ 0 → refused (number_of Is.Resolution) ≡ tested a b says
     unfolding tested
     tested_deep h =
         let f = fact in
         simp (and_no (shallow 30 (cells_in a)) (shallow 30 (cells_in b)) (λ g. deep_no 30 b ey (sym (f.2 (λ j. g (deep_no 30 a ex (sym j ∙ h)))) ∙ h)))
 
-    tested_past : (z ≡ 0 → ⊥) → z ≡ 1 → refused (number_of Is.Position) ≡ tested a b said
+    tested_past : (z ≡ 0 → ⊥) → z ≡ 1 → refused (number_of Is.Position) ≡ tested a b says
     unfolding tested
     tested_past d h =
         let f = fact in
@@ -140,7 +133,7 @@ module _ (a b : List ℕ) {x y z : ℕ} (ex : x ≡ passes 30 a) (ey : y ≡ pas
         let db : shallow 30 (cells_in b) ≡ true = deep_yes 30 b ey (omega arith) in
         simp (da, db, and_no (inside (cells_in a)) (inside (cells_in b)) (λ g. low_no 30 b ey (sym (f.2 (λ j. g (low_no 30 a ex (sym j ∙ h)))) ∙ h)))
 
-    tested_unordered : (z ≡ 0 → ⊥) → (z ≡ 1 → ⊥) → z ≡ 2 → refused (number_of Is.Order) ≡ tested a b said
+    tested_unordered : (z ≡ 0 → ⊥) → (z ≡ 1 → ⊥) → z ≡ 2 → refused (number_of Is.Order) ≡ tested a b says
     unfolding tested
     tested_unordered d l h =
         let f = fact in
@@ -158,78 +151,54 @@ module _ (a b : List ℕ) {x y z : ℕ} (ex : x ≡ passes 30 a) (ey : y ≡ pas
     many : (3 ≤ x) × (3 ≤ y)
     many = let f = fact in (omega arith, omega arith)
 
-    tested_both : {A : Type 0} (said : Told A) → said ≡ tested a b said
+    tested_both : {A : Type 0} (says : Told A) → says ≡ tested a b says
     unfolding tested
-    tested_both said =
+    tested_both says =
         let f = many in
         let da : shallow 30 (cells_in a) ≡ true = deep_yes 30 a ex (omega arith) in
         let db : shallow 30 (cells_in b) ≡ true = deep_yes 30 b ey (omega arith) in
         simp (da, db, low_yes 30 a ex (omega arith), low_yes 30 b ey (omega arith), tidy_yes 30 a ex f.0, tidy_yes 30 b ey f.1)
 
-    pub both_areas : Areas a b
-    both_areas = record { first = (passed_all 30 a ex many.0).laid; second = (passed_all 30 b ey many.1).laid }
+-- as their reading tells
+module _ (a b : List ℕ) {A : Type 0} (says : Told A) where
+  fault_tested : (fault : Fault) → passed_before fault ≡ min (passes 30 a) (passes 30 b) → refused (number_of (refusal_for fault)) ≡ tested a b says
+  fault_tested Test.Resolution e = tested_deep a b refl refl e says refl
+  fault_tested Test.Position e = tested_past a b refl refl e says (λ z. omega arith) refl
+  fault_tested Test.Order e = tested_unordered a b refl refl e says (λ z. omega arith) (λ z. omega arith) refl
+
+  both_tested : 3 ≡ min (passes 30 a) (passes 30 b) → says ≡ tested a b says
+  both_tested e = tested_both a b refl refl e (λ z. omega arith) (λ z. omega arith) (λ z. omega arith) says
 
 -- ---- two areas into a third: the tests
-module _ (o : Operation) (a b slice : List ℕ) {x y z : ℕ} (ex : x ≡ passes 30 a) (ey : y ≡ passes 30 b) (ez : z ≡ cond (ltb x y) x y) where
-  module _ (h : z ≡ 0) where
-    deep : refused (number_of Is.Resolution) ≡ made_call o a b
+module _ (o : Operation) (a b slice : List ℕ) where
+  module _ (fault : Fault) (e : passed_before fault ≡ min (passes 30 a) (passes 30 b)) {refusal : Refusal} (refusal_is : refusal ≡ refusal_for fault) where
+    refuses : refused (number_of refusal) ≡ made_call o a b
     unfolding made_call
-    deep = tested_deep a b ex ey ez (told (pairs (made_of o a b))) h
+    refuses = rw refusal_is (fault_tested a b (told (pairs (made_of o a b))) fault e)
 
-    pub deep_count : refused (number_of Is.Resolution) ≡ valued (λ n. n / 2) (count_of (made_call o a b) slice)
-    deep_count = ap (valued (λ n. n / 2)) (refused_count slice deep)
+    pub faulty_count : refused (number_of refusal) ≡ valued (λ n. n / 2) (count_of (made_call o a b) slice)
+    faulty_count = ap (valued (λ n. n / 2)) (refused_count slice refuses)
 
-    pub deep_left : slice ≡ after_call (made_call o a b) slice
-    deep_left = refused_kept slice deep
+    pub faulty_left : slice ≡ after_call (made_call o a b) slice
+    faulty_left = refused_kept slice refuses
 
-  module _ (d : z ≡ 0 → ⊥) (h : z ≡ 1) where
-    past : refused (number_of Is.Position) ≡ made_call o a b
-    unfolding made_call
-    past = tested_past a b ex ey ez (told (pairs (made_of o a b))) d h
+  taken : 3 ≡ min (passes 30 a) (passes 30 b) → told (pairs (made_of o a b)) ≡ made_call o a b
+  unfolding made_call
+  taken e = both_tested a b (told (pairs (made_of o a b))) e
 
-    pub past_count : refused (number_of Is.Position) ≡ valued (λ n. n / 2) (count_of (made_call o a b) slice)
-    past_count = ap (valued (λ n. n / 2)) (refused_count slice past)
+  -- an overlay is of the same operation and areas
+  pub combined : {u : Operation} {xs ys : List ℕ} → 3 ≡ min (passes 30 a) (passes 30 b) → (u ≡ o) × (xs ≡ a) × (ys ≡ b) → {t : Told ℕ} {out : List ℕ}
+      → (t ≡ valued (λ n. n / 2) (count_of (told (pairs (made_of u xs ys))) slice)) × (out ≡ after_call (told (pairs (made_of u xs ys))) slice)
+      → (t ≡ valued (λ n. n / 2) (count_of (made_call o a b) slice)) × (out ≡ after_call (made_call o a b) slice)
+  combined e s c = rw (s.0, s.1, s.2, taken e) at c
 
-    pub past_left : slice ≡ after_call (made_call o a b) slice
-    past_left = refused_kept slice past
-
-  module _ (d : z ≡ 0 → ⊥) (l : z ≡ 1 → ⊥) (h : z ≡ 2) where
-    unordered : refused (number_of Is.Order) ≡ made_call o a b
-    unfolding made_call
-    unordered = tested_unordered a b ex ey ez (told (pairs (made_of o a b))) d l h
-
-    pub unordered_count : refused (number_of Is.Order) ≡ valued (λ n. n / 2) (count_of (made_call o a b) slice)
-    unordered_count = ap (valued (λ n. n / 2)) (refused_count slice unordered)
-
-    pub unordered_left : slice ≡ after_call (made_call o a b) slice
-    unordered_left = refused_kept slice unordered
-
-  module _ (d : z ≡ 0 → ⊥) (l : z ≡ 1 → ⊥) (t : z ≡ 2 → ⊥) where
-    taken : told (pairs (made_of o a b)) ≡ made_call o a b
-    unfolding made_call
-    taken = tested_both a b ex ey ez d l t (told (pairs (made_of o a b)))
-
-    pub taken_count : {w : Told ℕ} → w ≡ valued (λ n. n / 2) (count_of (told (pairs (made_of o a b))) slice) → w ≡ valued (λ n. n / 2) (count_of (made_call o a b) slice)
-    taken_count e = rw (← taken) e
-
-    pub taken_left : {out : List ℕ} → out ≡ after_call (told (pairs (made_of o a b))) slice → out ≡ after_call (made_call o a b) slice
-    taken_left e = rw (← taken) e
-
-pub ruleset combining_tests = (both_areas, deep_count, deep_left, past_count, past_left, unordered_count, unordered_left, taken_count, taken_left)
+pub ruleset combining_tests = (faulty_count, faulty_left)
 
 -- ---- and the room
-module _ (o : Operation) (a b : List ℕ) (areas : Areas a b) where
-  -- a count asks for none
-  pub count_walkable : (slice : List ℕ) → Walkable o a b false slice
-  count_walkable slice = record { areas = areas; room = λ e. absurd (true≢false (sym e)) }
-
-  pub room_ample : (room : ℕ) {enough : Bool} → enough ≡ ample o (length a / 2) (length b / 2) room → enough ≡ true → true ≡ leb (length (made_of o a b)) room
-  room_ample room e f = sym (le-leb (length (made_of o a b)) room (ample_room a b areas.first areas.second room o (sym e ∙ f)))
-
-  pub room_counted : (room : ℕ) {n : ℕ} → n ≡ length (made_of o a b) → leb n room ≡ leb (length (made_of o a b)) room
-  room_counted room e = ap (λ (n : ℕ). leb n room) e
-
-pub ruleset rooms = (count_walkable, room_ample, room_counted)
+pub room_ample : (o : Operation) (a b : List ℕ) → passes 30 a ≡ 3 → passes 30 b ≡ 3
+    → (room : ℕ) {enough : Bool} → enough ≡ ample o (length a / 2) (length b / 2) room → enough ≡ true → enough ≡ leb (length (made_of o a b)) room
+room_ample o a b first second room e f =
+    f ∙ sym (le-leb (length (made_of o a b)) room (ample_room a b (passes_tested 30 a first).laid (passes_tested 30 b second).laid room o (sym e ∙ f)))
 
 module _ (o : Operation) (a b slice : List ℕ) {room : Bool} (room_is : room ≡ leb (length (made_of o a b)) (length slice / 2)) where
   module _ (h : not room ≡ true) where
@@ -243,11 +212,8 @@ module _ (o : Operation) (a b slice : List ℕ) {room : Bool} (room_is : room �
     short_left = (count_short (pairs (made_of o a b)) slice (length_pairs (made_of o a b)) short).1
 
   module _ (h : not room ≡ false) where
-    roomy : 2 * length (made_of o a b) ≤ length slice
+    pub roomy : 2 * length (made_of o a b) ≤ length slice
     roomy = omega (arith, leb-true (length (made_of o a b)) (length slice / 2) (sym room_is ∙ not-false room h))
-
-    pub room_walkable : Areas a b → Walkable o a b true slice
-    room_walkable areas = record { areas = areas; room = λ e. roomy }
 
     module _ {n : ℕ} {out : List ℕ} (count_is : n ≡ length (made_of o a b)) (out_is : out ≡ pairs (made_of o a b) ++ drop (2 * length (made_of o a b)) slice) where
       counted : Counted (told (pairs (made_of o a b))) slice (told (2 * length (made_of o a b))) out
@@ -261,7 +227,7 @@ module _ (o : Operation) (a b slice : List ℕ) {room : Bool} (room_is : room �
       pub whole_left : out ≡ after_call (told (pairs (made_of o a b))) slice
       whole_left = counted.1
 
-pub ruleset combining_room = (short_count, short_left, room_walkable, whole_count, whole_left)
+pub ruleset combining_room = (short_count, short_left, roomy, whole_count, whole_left)
 
 -- ---- the size
 module _ (a : List ℕ) (r : ℕ) {n : ℕ} (e : n ≡ passes r a) where
@@ -291,36 +257,34 @@ module _ (a : List ℕ) (r : ℕ) {n : ℕ} (e : n ≡ passes r a) where
       size_unordered z = simp (low, deep_both.1, low_yes r a e (omega arith), tidy_no r a e z)
 
       module _ (t : n ≡ 2 → ⊥) where
-        pub size_told : {k : ℕ} → k ≡ length (unfold_of r (cells_in a)) → told k ≡ size_call a r
+        size_told : told (length (unfold_of r (cells_in a))) ≡ size_call a r
         unfolding size_call unfold_call
-        size_told {k} f = simp (low, deep_both.1, low_yes r a e (omega arith), tidy_yes r a e (omega arith), f)
+        size_told = simp (low, deep_both.1, low_yes r a e (omega arith), tidy_yes r a e (omega arith))
 
-        pub size_tested : Tested r a
-        size_tested = passed_all r a e (omega arith)
+module _ (a : List ℕ) (r : ℕ) where
+  fault_size : (fault : Fault) → passed_before fault ≡ passes r a → refused (number_of (refusal_for fault)) ≡ size_call a r
+  fault_size Test.Resolution e = size_deep a r e refl
+  fault_size Test.Position e = size_past a r e (λ z. omega arith) refl
+  fault_size Test.Order e = size_unordered a r e (λ z. omega arith) (λ z. omega arith) refl
 
-pub ruleset sizing = (size_deep, size_past, size_unordered, size_told, size_tested)
+  pub no_size : (fault : Fault) → passed_before fault ≡ passes r a → {refusal : Refusal} → refusal ≡ refusal_for fault → refused (number_of refusal) ≡ size_call a r
+  no_size fault e f = rw f (fault_size fault e)
+
+  pub sized : 3 ≡ passes r a → {m : ℕ} {xs : List ℕ} → (m ≡ r) × (xs ≡ a) → {k : ℕ} → k ≡ length (unfold_of m (cells_in xs)) → told k ≡ size_call a r
+  sized e s f = rw (f, s.0, s.1) (size_told a r e (λ z. omega arith) (λ z. omega arith) (λ z. omega arith))
 
 -- ---- whether a cell is contained
-module _ (a : List ℕ) (m p : ℕ) {x y z : ℕ} (ex : x ≡ passes 30 (m ∷ p ∷ [])) (ey : y ≡ passes 30 a) (ez : z ≡ cond (ltb x y) x y) where
-  pub contains_deep : z ≡ 0 → refused (number_of Is.Resolution) ≡ contains_call a m p
+module _ (a : List ℕ) (m p : ℕ) where
+  pub not_told : (fault : Fault) → passed_before fault ≡ min (passes 30 (m ∷ p ∷ [])) (passes 30 a) → {refusal : Refusal} → refusal ≡ refusal_for fault
+      → refused (number_of refusal) ≡ contains_call a m p
   unfolding contains_call
-  contains_deep h = tested_deep (m ∷ p ∷ []) a ex ey ez _ h
+  not_told fault e f = rw f (fault_tested (m ∷ p ∷ []) a _ fault e)
 
-  module _ (d : z ≡ 0 → ⊥) where
-    pub contains_past : z ≡ 1 → refused (number_of Is.Position) ≡ contains_call a m p
-    unfolding contains_call
-    contains_past h = tested_past (m ∷ p ∷ []) a ex ey ez _ d h
-
-    module _ (l : z ≡ 1 → ⊥) where
-      pub contains_unordered : z ≡ 2 → refused (number_of Is.Order) ≡ contains_call a m p
-      unfolding contains_call
-      contains_unordered h = tested_unordered (m ∷ p ∷ []) a ex ey ez _ d l h
-
-      module _ (t : z ≡ 2 → ⊥) where
-        pub contains_told : {k : ℕ} → k ≡ length (made_of For.Difference (m ∷ p ∷ []) a) → told (eqb k 0) ≡ contains_call a m p
-        unfolding contains_call made_of cells_in
-        contains_told e =
-            let both = both_areas (m ∷ p ∷ []) a ex ey ez d l t in
-            ap (λ (b : Bool). told b) (contained_left 30 m p (cells_in a) both.first.0 both.first.1 both.second e) ∙ tested_both (m ∷ p ∷ []) a ex ey ez d l t (told (contained 30 (cells_in a) m p))
-
-pub ruleset containing = (both_areas, contains_deep, contains_past, contains_unordered, contains_told)
+  pub contains_told : {u : Operation} {xs ys : List ℕ} → 3 ≡ min (passes 30 (m ∷ p ∷ [])) (passes 30 a) → (u ≡ For.Difference) × (xs ≡ m ∷ p ∷ []) × (ys ≡ a)
+      → {k : ℕ} → k ≡ length (made_of u xs ys) → told (eqb k 0) ≡ contains_call a m p
+  unfolding contains_call made_of cells_in
+  contains_told e s f =
+      let one = (passes_tested 30 (m ∷ p ∷ []) (omega (arith, passes_most (m ∷ p ∷ []), passes_most a))).laid in
+      let all = (passes_tested 30 a (omega (arith, passes_most (m ∷ p ∷ []), passes_most a))).laid in
+      let g = rw (s.0, s.1, s.2) at f in
+      ap (λ (b : Bool). told b) (contained_left 30 m p (cells_in a) one.0 one.1 all g) ∙ both_tested (m ∷ p ∷ []) a (told (contained 30 (cells_in a) m p)) e

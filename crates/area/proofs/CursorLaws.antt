@@ -61,9 +61,6 @@ module _ (xs : List ℕ) (place i : ℕ) (got : Reached xs place i) where
     pub stretch_shallow : m ≤ 30
     stretch_shallow = front.0
 
-    pub stretch_byte : 30 - m < 256
-    stretch_byte = omega arith
-
     module _ {n : ℕ} (size : n ≡ position_count (30 - m)) where
       e : n ≡ 4 ^ (30 - m)
       e = positions_are (30 - m) (omega arith) size
@@ -112,7 +109,7 @@ module _ (xs : List ℕ) (place i : ℕ) (got : Reached xs place i) where
             };
           }
 
-pub ruleset stretching = (stretch_none, stretch_shallow, stretch_byte, first_fits, end_fits, stretch_before, stretch_within)
+pub ruleset stretching = (stretch_none, stretch_shallow, first_fits, end_fits, stretch_before, stretch_within)
 
 -- ---- two areas
 module _ (o : Operation) (a b : List ℕ) (place i j : ℕ) {x y : Stretch} (f : Stretched a place i x) (g : Stretched b place j y) {w : Bool} (kept_is : w ≡ kept o x.inside y.inside) where

@@ -1,82 +1,64 @@
--- The largest cell that begins at a place and ends at another or before, found by halves.
-use mathlib.Core.Bool.{Bool, true, false, and-false}
-use mathlib.Core.Path.{◌≡◌, refl, sym, ◌∙◌}
-use Prim.Native.Nat.{ℕ, suc, ◌+◌, ◌-◌, ◌*◌, ◌/◌, ◌%◌, ◌^◌, ◌<◌, ◌≤◌}
+-- The largest cell that begins at a place and ends at another or before: how often four divides the place, and how often it goes into what lies between.
+use mathlib.Core.Path.{◌≡◌, sym, ◌∙◌}
+use Prim.Native.Nat.{ℕ, zero, suc, ◌+◌, ◌-◌, ◌*◌, ◌/◌, ◌%◌, ◌^◌, ◌<◌, ◌≤◌, min, suc-le-suc}
 use native.Mathlib.Nat as N
+use native.Mathlib.Decide.{ℕ_discrete, dec_le}
 use native.Mathlib.Omega.{arith}
-use lib.Bits.{bit_and, and_mask}
-use lib.Dec.{leb, eqb}
-use borrow.Author.Tests.{eq-eqb, ne_eqb, eqb-true, le-leb, lt-leb, leb-true, leb-false}
-use Rattle.whole.proofs.Digits.{four_power}
+use lib.Arith.{mod-mul}
+use lib.Count.{count_trailing_zeros}
+use lib.Pow.{pow_mono}
+use Rattle.whole.proofs.Digits.{two_power, twice_power}
 use Rattle.whole.proofs.Powers.{four_by_shift}
-use Rattle.triple.specs.Domain.{position_count}
-use Rattle.triple.proofs.DomainLaws.{positions_are}
-use Rattle.whole.proofs.Bools.{both_true}
-use Rattle.area.specs.Inside.Cursors.{fits_at, Fits}
+use Rattle.area.specs.Inside.Cursors.{Fits}
 
--- ---- one cell, as the code tests it
-module _ (k n : ℕ) (low : k ≤ 30) (size : n ≡ position_count k) where
-  sized : n ≡ 4 ^ k
-  sized = positions_are k low size
+-- ---- a power of two divides a number as often as the number's lowest digits are zeros
+two_more : (n j : ℕ) → n % 2 ^ suc j ≡ n / 2 % 2 ^ j * 2 + n % 2
+two_more n j = rw N.pow-suc (mod-mul n (two_power j) (omega arith))
 
-  pub size_some : 1 ≤ n
-  size_some = omega (arith, sized, four_power k)
+zeros_divide : (w n j : ℕ) → j ≤ count_trailing_zeros w n → n % 2 ^ j ≡ 0
+unfolding count_trailing_zeros
+zeros_divide w n zero h = N.mod-one n
+zeros_divide zero n (suc j) h = let z : ⊥ = omega arith in absurd z
+zeros_divide (suc w) n (suc j) h = elim (ℕ_discrete (n % 2) 0) [
+  | yes e ↦
+      (let l : suc j ≤ suc (count_trailing_zeros w (n / 2)) = rw e at h in
+      rw (two_more n j, zeros_divide w (n / 2) j (omega arith), e))
+  | no e ↦
+      (let f : n % 2 ≡ 1 = omega arith in
+      let l : suc j ≤ 0 = rw f at h in
+      let z : ⊥ = omega arith in absurd z)
+]
 
-module _ (lo hi k n : ℕ) (low : k ≤ 30) (size : n ≡ position_count k) where
-  masked : bit_and lo (n - 1) ≡ lo % 4 ^ k
-  masked = rw (sized k n low size, ← four_by_shift k) (and_mask lo (2 * k))
+zeros_most : (w n j : ℕ) → j ≤ w → n % 2 ^ j ≡ 0 → j ≤ count_trailing_zeros w n
+unfolding count_trailing_zeros
+zeros_most w n zero h e = omega arith
+zeros_most zero n (suc j) h e = let z : ⊥ = omega arith in absurd z
+zeros_most (suc w) n (suc j) h e =
+    let f : n / 2 % 2 ^ j * 2 + n % 2 ≡ 0 = sym (two_more n j) ∙ e in
+    let low : n % 2 ≡ 0 = omega arith in
+    rw low (suc-le-suc (zeros_most w (n / 2) j (omega arith) (omega arith)))
 
-  pub fitting_not : (bit_and lo (n - 1) ≡ 0 → ⊥) → false ≡ fits_at lo hi k
-  unfolding fits_at
-  fitting_not f = rw (ne_eqb (lo % 4 ^ k) 0 (λ e. f (masked ∙ e)))
+-- ---- the largest cell
+-- four by four is two by two
+by_twos : (lo k : ℕ) → lo % 4 ^ k ≡ lo % 2 ^ (2 * k)
+by_twos lo k = rw four_by_shift
 
-  pub fitting_tells : bit_and lo (n - 1) ≡ 0 → leb n (hi - lo) ≡ fits_at lo hi k
-  unfolding fits_at
-  fitting_tells e = rw (eq-eqb (lo % 4 ^ k) 0 (sym masked ∙ e), sized k n low size) refl
+module _ (lo hi : ℕ) (bound : (lo < hi) × (hi ≤ 4 ^ 30)) (wide : ℕ) (most : 2 ^ wide ≤ hi - lo) (next : hi - lo < 2 * 2 ^ wide) where
+  narrow : wide ≤ 60
+  narrow = elim (dec_le wide 60) [
+    | yes h ↦ h
+    | no h ↦ (let z : ⊥ = omega (arith, bound.1, pow_mono {i = 61} {j = wide} (omega arith)) in absurd z)
+  ]
 
-pub ruleset fitting = (size_some, fitting_not, fitting_tells)
-
--- ---- by halves: one that fits, and one above it that does not
-pub record Halved (lo hi k above : ℕ) : Type 0 where
-  pub apart : k < above
-  pub most : above ≤ 31
-  pub fits : fits_at lo hi k ≡ true
-  pub not_above : fits_at lo hi above ≡ false
-
-pub halved_start : (lo hi : ℕ) → (lo < hi) × (hi ≤ 4 ^ 30) → Halved lo hi 0 31
-unfolding fits_at
-halved_start lo hi h =
-    record {
-      apart = omega arith;
-      most = omega arith;
-      fits = rw (N.mod-one lo, le-leb 1 (hi - lo) (omega (arith, h.0)));
-      not_above = rw (lt-leb (4 ^ 31) (hi - lo) (omega (arith, h.1))) (and-false (eqb (lo % 4 ^ 31) 0));
-    }
-
-module _ (lo hi : ℕ) {k above : ℕ} (halved : Halved lo hi k above) where
-  module _ (h : 1 < above - k) {b : Bool} (b_is : b ≡ fits_at lo hi ((k + above) / 2)) where
-    pub halved_up : b ≡ true → Halved lo hi ((k + above) / 2) above
-    halved_up e = record { apart = omega arith; most = halved.most; fits = sym b_is ∙ e; not_above = halved.not_above }
-
-    pub halved_down : b ≡ false → Halved lo hi k ((k + above) / 2)
-    halved_down e = record { apart = omega arith; most = omega (arith, halved.most); fits = halved.fits; not_above = sym b_is ∙ e }
-
-  pub halved_all : above - k ≤ 1 → (lo < hi) × (hi ≤ 4 ^ 30) → Fits lo hi k
-  unfolding fits_at
-  halved_all h bound =
-      let f = halved.apart in
-      let most = halved.most in
-      let next : above ≡ suc k = omega arith in
-      let yes = both_true (eqb (lo % 4 ^ k) 0) (leb (4 ^ k) (hi - lo)) halved.fits in
-      let z = four_power k in
-      let l = leb-true (4 ^ k) (hi - lo) yes.1 in
+  pub largest_fits : {k : ℕ} → k ≡ min (count_trailing_zeros 64 lo / 2) (wide / 2) → Fits lo hi k
+  largest_fits {k} k_is =
+      let low = bound.0 in
+      let n = narrow in
       record {
         within = omega arith;
-        even = eqb-true (lo % 4 ^ k) 0 yes.0;
-        ends = omega arith;
-        top = λ i e.
-            (let no : leb (4 ^ suc k) (hi - lo) ≡ false = rw (next, eq-eqb (lo % 4 ^ suc k) 0 e) at halved.not_above in
-            omega (arith, leb-false (4 ^ suc k) (hi - lo) no, bound.0));
+        even = by_twos lo k ∙ zeros_divide 64 lo (2 * k) (omega arith);
+        ends = omega (arith, four_by_shift k, pow_mono {i = 2 * k} {j = wide} (omega arith));
+        top = λ h e.
+            (let even = zeros_most 64 lo (2 * suc k) (omega arith) (sym (by_twos lo (suc k)) ∙ e) in
+            omega (arith, four_by_shift (suc k), twice_power wide, pow_mono {i = suc wide} {j = 2 * suc k} (omega arith)));
       }
-
-pub ruleset halving = (halved_start, halved_up, halved_down, halved_all)

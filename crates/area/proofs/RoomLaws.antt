@@ -1,6 +1,6 @@
 -- What a union or an intersection makes of two areas has no more cells than both together: cells of theirs cover it.
 use mathlib.Core.Bool.{true, false, cond, false≢true}
-use mathlib.Core.Logic.{◌↔◌, inl, inr, ⊎_elim}
+use mathlib.Core.Logic.{◌↔◌, ◌⊎◌, inl, inr, ⊎_elim}
 use mathlib.Core.Path.{◌≡◌, refl, sym, ap, ◌∙◌}
 use mathlib.Core.List.Memᴰ
 use mathlib.Core.List.{List, [], ◌∷◌, ◌++◌, Memᴰ}
@@ -137,29 +137,25 @@ module _ (a b : List ℕ) (la : Laid 30 0 (cells_in a)) (lb : Laid 30 0 (cells_i
   ample_room For.Difference h = absurd (false≢true h)
 
 -- ---- the tests of the code
-module _ (a b room : ℕ) where
-  pub ample_not : (o : Operation) → room < a → false ≡ ample o a b room
-  unfolding ample
-  ample_not For.Union h = sym (lt-leb (a + b) room (omega arith))
-  ample_not For.Intersection h = sym (lt-leb (a + b) room (omega arith))
-  ample_not For.Difference h = refl
+module _ (a b room : ℕ) {o : Operation} where
+  module _ (either : (o ≡ For.Union) ⊎ (o ≡ For.Intersection)) where
+    sum_tells : leb (a + b) room ≡ ample o a b room
+    unfolding ample
+    sum_tells = ⊎_elim (λ (e : o ≡ For.Union). rw e) (λ (e : o ≡ For.Intersection). rw e) either
 
-  ample_tells : a ≤ room → leb b (room - a) ≡ leb (a + b) room
-  ample_tells h = elim (dec_le (a + b) room) [
-    | yes l ↦ le-leb b (room - a) (omega arith) ∙ sym (le-leb (a + b) room l)
-    | no l ↦ lt-leb b (room - a) (omega arith) ∙ sym (lt-leb (a + b) room (omega arith))
-  ]
+    pub ample_not : room < a → leb a room ≡ ample o a b room
+    ample_not h = lt-leb a room h ∙ sym (lt-leb (a + b) room (omega arith)) ∙ sum_tells
 
-  pub ample_union : {o : Operation} → o ≡ For.Union → a ≤ room → leb b (room - a) ≡ ample o a b room
-  unfolding ample
-  ample_union e h = rw e (ample_tells h)
+    pub ample_tells : a ≤ room → leb b (room - a) ≡ ample o a b room
+    ample_tells h =
+        elim (dec_le (a + b) room) [
+          | yes l ↦ le-leb b (room - a) (omega arith) ∙ sym (le-leb (a + b) room l)
+          | no l ↦ lt-leb b (room - a) (omega arith) ∙ sym (lt-leb (a + b) room (omega arith))
+        ]
+        ∙ sum_tells
 
-  pub ample_intersection : {o : Operation} → o ≡ For.Intersection → a ≤ room → leb b (room - a) ≡ ample o a b room
-  unfolding ample
-  ample_intersection e h = rw e (ample_tells h)
-
-  pub ample_difference : {o : Operation} → o ≡ For.Difference → false ≡ ample o a b room
+  pub ample_difference : o ≡ For.Difference → false ≡ ample o a b room
   unfolding ample
   ample_difference e = rw e
 
-pub ruleset amples = (ample_not, ample_union, ample_intersection, ample_difference)
+pub ruleset amples = (ample_not, ample_tells, ample_difference)

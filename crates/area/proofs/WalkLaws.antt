@@ -19,56 +19,24 @@ use Rattle.triple.specs.Domain.{position_count}
 use Rattle.triple.proofs.DomainLaws.{positions_are}
 use Rattle.fold.specs.Cells.{Cell, cell, pairs, cells_in}
 use Rattle.fold.specs.Inside.Pairs.{Laid}
+use Rattle.fold.specs.Unfolds.{passes}
+use Rattle.fold.proofs.PairTestLaws.{passes_tested}
 use Rattle.area.specs.Areas.{keeps, made_of}
 use Rattle.area.specs.Inside.Cursors.{Reached, Pieced, Fits}
 use Rattle.whole.proofs.Bools.{both_true}
 use Rattle.fold.proofs.PairLaws.{length_pairs, pairs_poured}
 use Rattle.area.specs.declared.operation.Operation.{Operation}
 use Rattle.area.specs.declared.cursors.Piece.{Piece}
-use Rattle.area.specs.Inside.Rooms.{Walkable, Cut}
+use Rattle.area.specs.Inside.Rooms.{Cut}
 use Rattle.area.proofs.CursorLaws.{reached_start}
 use Rattle.area.proofs.Along.{Full, Clear, Largest, Along, next_cell}
 use Rattle.area.proofs.Made.{keeps_past, made_along}
 
--- ---- one pair, stored or only counted
-module _ (writing : Bool) (n : ℕ) (slice : List ℕ) where
-  pub note_place : (writing ≡ true → 2 * n + 1 < length slice) → writing ≡ true → 2 * n + 1 < length slice
-  note_place room e = room e
-
-  module _ (m p : ℕ) where
-    pub noted : writing ≡ true → {out : List ℕ} → out ≡ set (set slice (2 * n) m) (2 * n + 1) p → out ≡ cond writing (set (set slice (2 * n) m) (2 * n + 1) p) slice
-    noted e f = rw e f
-
-    pub not_noted : writing ≡ false → slice ≡ cond writing (set (set slice (2 * n) m) (2 * n + 1) p) slice
-    not_noted e = rw e refl
-
-pub ruleset noting = (note_place, noted, not_noted)
-
 -- ---- the first cell of a run
 module _ {lo hi k : ℕ} (fits : Fits lo hi k) where
-  pub level_low : k ≤ 30
-  level_low = fits.within
-
-  pub level_byte : 30 - k < 256
-  level_byte = omega arith
-
-  pub level_shift : 2 * k < 64
-  level_shift = omega (arith, fits.within)
-
   pub cut_off : {writing : Bool} {n : ℕ} {slice out : List ℕ} {size : ℕ} → size ≡ position_count k
       → out ≡ cond writing (set (set slice (2 * n) (30 - k)) (2 * n + 1) (lo / 2 ^ (2 * k))) slice → Cut writing n lo hi slice size out
   cut_off e s = record { level = k; fits = fits; size_is = positions_are k fits.within e; stored = rw (← four_by_shift k) s }
-
-pub ruleset cutting = (level_low, level_byte, level_shift, cut_off)
-
--- ---- whether a run is at its end
-pub open_run : {inside : Bool} (lo hi : ℕ) → inside ≡ true → false ≡ (not inside && ltb lo hi)
-open_run lo hi e = rw e refl
-
-pub closed_run : {inside : Bool} (lo hi : ℕ) → inside ≡ false → ltb lo hi ≡ (not inside && ltb lo hi)
-closed_run lo hi e = rw e refl
-
-pub ruleset closing = (open_run, closed_run)
 
 -- ---- a pair more in the buffer
 module _ (cells rest : List Cell) (n m p : ℕ) (next : drop n cells ≡ cell m p ∷ rest) where
@@ -241,25 +209,26 @@ cut_less cut = omega (arith, cut.fits.ends, cut.size_is, four_power cut.level)
 
 -- ---- the loop of the code: the run from lo to hi, the piece from hi on, and the pairs that are stored
 pub record Going (o : Operation) (a b : List ℕ) (writing : Bool) (slice : List ℕ) (n lo hi : ℕ) (x : Piece) (out : List ℕ) : Type 0 where
-  asked : Walkable o a b writing slice
+  first : passes 30 a ≡ 3
+  second : passes 30 b ≡ 3
+  room : writing ≡ true → 2 * length (made_of o a b) ≤ length slice
   walked : Walked o a b n lo hi
   piece : Pieced o a b hi x
   before_end : hi < 4 ^ 30 + 1
   same_length : length out ≡ length slice
   stored : out ≡ cond writing (poured (pairs (made_of o a b)) (2 * n) slice) slice
 
-module _ (o : Operation) (a b : List ℕ) (writing : Bool) (slice : List ℕ) (asked : Walkable o a b writing slice) where
-  pub first_reached : Reached a 0 0
-  first_reached = reached_start a asked.areas.first
+pub start_reached : (a : List ℕ) → passes 30 a ≡ 3 → Reached a 0 0
+start_reached a e = reached_start a (passes_tested 30 a e).laid
 
-  pub second_reached : Reached b 0 0
-  second_reached = reached_start b asked.areas.second
-
-  pub going_start : {x : Piece} → Pieced o a b 0 x → Going o a b writing slice 0 0 0 x slice
-  going_start q =
+module _ (o : Operation) (a b : List ℕ) (writing : Bool) (slice : List ℕ) (first : passes 30 a ≡ 3) (second : passes 30 b ≡ 3) where
+  pub going_start : (writing ≡ true → 2 * length (made_of o a b) ≤ length slice) → {x : Piece} → Pieced o a b 0 x → Going o a b writing slice 0 0 0 x slice
+  going_start room q =
       record {
-        asked = asked;
-        walked = walk_start o a b asked.areas.first asked.areas.second;
+        first = first;
+        second = second;
+        room = room;
+        walked = walk_start o a b (passes_tested 30 a first).laid (passes_tested 30 b second).laid;
         piece = q;
         before_end = omega arith;
         same_length = refl;
@@ -285,7 +254,7 @@ module _ (o : Operation) (a b : List ℕ) (writing : Bool) (slice : List ℕ) {n
     run_inside = omega (arith, going.before_end)
 
     pub note_room : writing ≡ true → 2 * n + 1 < length out
-    note_room e = omega (arith, more, going.asked.room e, going.same_length)
+    note_room e = omega (arith, more, going.room e, going.same_length)
       where
         more : n < length (made_of o a b)
         more = walk_some o a b going.walked going.piece parts.0 run_some
@@ -301,12 +270,14 @@ module _ (o : Operation) (a b : List ℕ) (writing : Bool) (slice : List ℕ) {n
       going_cut =
           let k = cut.level in
           record {
-            asked = going.asked;
+            first = going.first;
+            second = going.second;
+            room = going.room;
             walked = walk_more o a b going.walked going.piece parts.0 cut.fits cut.size_is;
             piece = going.piece;
             before_end = going.before_end;
             same_length = noted_long writing out n (30 - k) (lo / 4 ^ k) cut.stored ∙ going.same_length;
-            stored = walk_noted o a b going.walked going.piece parts.0 cut.fits writing {out = out} slice going.asked.room going.stored cut.stored;
+            stored = walk_noted o a b going.walked going.piece parts.0 cut.fits writing {out = out} slice going.room going.stored cut.stored;
           }
 
   -- ---- the next piece is taken
@@ -324,7 +295,7 @@ module _ (o : Operation) (a b : List ℕ) (writing : Bool) (slice : List ℕ) {n
             rw l (walk_skip o a b going.walked going.piece (rw e refl) (ltb-false lo hi f))
 
     pub going_ends : 4 ^ 30 + 1 ≤ x.end → n ≡ length (made_of o a b)
-    going_ends h = walk_ends o a b going.asked.areas.first going.asked.areas.second moved h
+    going_ends h = walk_ends o a b (passes_tested 30 a going.first).laid (passes_tested 30 b going.second).laid moved h
 
     pub going_stored : 4 ^ 30 + 1 ≤ x.end → out ≡ cond writing (pairs (made_of o a b) ++ drop (2 * length (made_of o a b)) slice) slice
     going_stored h = poured_end writing (made_of o a b) slice (going_ends h) going.stored
@@ -345,11 +316,10 @@ module _ (o : Operation) (a b : List ℕ) (writing : Bool) (slice : List ℕ) {n
           later false e = omega (arith, start_is ∙ ap (λ (i : Bool). cond i lo x.end) e, going.walked.low, going.piece.more)
 
       pub going_on : {y : Piece} → Pieced o a b x.end y → Going o a b writing slice n start x.end y out
-      going_on q = record { asked = going.asked; walked = moved; piece = q; before_end = h; same_length = going.same_length; stored = going.stored }
+      going_on q = record { first = going.first; second = going.second; room = going.room; walked = moved; piece = q; before_end = h; same_length = going.same_length; stored = going.stored }
 
 pub ruleset walking = (
-  first_reached,
-  second_reached,
+  start_reached,
   going_start,
   going_length,
   run_some,

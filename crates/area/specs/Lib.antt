@@ -1,3 +1,2 @@
 pub mod Areas
-pub mod Answers
 pub mod Inside

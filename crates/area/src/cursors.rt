@@ -3,7 +3,8 @@
 ghost use Rattle.std.specs.Prelude.{◌+◌, ◌-◌, ◌^◌, ◌<◌, ◌≤◌};
 ghost use Rattle.area.specs.Inside.Cursors.{Reached, Stretched, Pieced};
 
-use crate::operation::{Operation, is_kept};
+use crate::operation::is_kept;
+use crate::overlay::Overlay;
 use triple::domain::position_count;
 
 // One more than the positions of resolution 30: no cell ends there, so nothing is kept just before it, and
@@ -26,6 +27,14 @@ pub(crate) struct Piece {
     pub i: usize,
     pub j: usize,
 }
+
+// What is before the first piece: nothing, with both cursors at the front.
+pub(crate) const START: Piece = Piece {
+    inside: false,
+    end: 0,
+    i: 0,
+    j: 0,
+};
 
 fn stretch_at(a: &[u64], i: usize, place: u64) -> Stretch
     requires { Reached a.now place i × (place < 4 ^ 30 + 1) }
@@ -54,40 +63,36 @@ fn stretch_at(a: &[u64], i: usize, place: u64) -> Stretch
     }
 }
 
-pub(crate) fn piece_at(
-    operation: Operation,
-    a: &[u64],
-    b: &[u64],
-    i: usize,
-    j: usize,
-    place: u64,
-) -> Piece
-    requires { Reached a.now place i × Reached b.now place j × (place < 4 ^ 30 + 1) }
-    ensures { Pieced operation a.now b.now place result }
-{
-    let x = stretch_at(a, i, place);
-    let y = stretch_at(b, j, place);
-    let inside = is_kept(operation, x.inside, y.inside);
-    if x.end < y.end {
-        return Piece {
-            inside: inside,
+impl Overlay<'_> {
+    // The piece behind another.
+    pub(crate) fn piece_after(&self, last: Piece) -> Piece
+        requires { Reached self.now.a.now last.end last.i × Reached self.now.b.now last.end last.j × (last.end < 4 ^ 30 + 1) }
+        ensures { Pieced self.now.operation self.now.a.now self.now.b.now last.end result }
+    {
+        let x = stretch_at(self.a, last.i, last.end);
+        let y = stretch_at(self.b, last.j, last.end);
+        let inside = is_kept(self.operation, x.inside, y.inside);
+        if x.end < y.end {
+            return Piece {
+                inside,
+                end: x.end,
+                i: x.next,
+                j: last.j,
+            };
+        }
+        if y.end < x.end {
+            return Piece {
+                inside,
+                end: y.end,
+                i: last.i,
+                j: y.next,
+            };
+        }
+        Piece {
+            inside,
             end: x.end,
             i: x.next,
-            j: j,
-        };
-    }
-    if y.end < x.end {
-        return Piece {
-            inside: inside,
-            end: y.end,
-            i: i,
             j: y.next,
-        };
-    }
-    Piece {
-        inside: inside,
-        end: x.end,
-        i: x.next,
-        j: y.next,
+        }
     }
 }

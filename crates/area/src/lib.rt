@@ -13,5 +13,6 @@ pub mod combining;
 pub mod cursors;
 pub mod cutting;
 pub mod operation;
+mod overlay;
 pub mod questions;
 pub mod walking;

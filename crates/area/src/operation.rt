@@ -14,23 +14,8 @@ pub(crate) fn is_kept(operation: Operation, x: bool, y: bool) -> bool
     ensures { result ≡ kept operation x y }
 {
     match operation {
-        Operation::Union => {
-            if x {
-                return true;
-            }
-            y
-        }
-        Operation::Intersection => {
-            if x {
-                return y;
-            }
-            false
-        }
-        Operation::Difference => {
-            if x {
-                return !y;
-            }
-            false
-        }
+        Operation::Union => x || y,
+        Operation::Intersection => x && y,
+        Operation::Difference => x && !y,
     }
 }

@@ -2,29 +2,24 @@
 ghost use Rattle.std.specs.Prelude.{true, not, cond, ◌&&◌, ◌≡◌, ◌++◌, ◌+◌, ◌*◌, ◌^◌, ◌<◌, ◌≤◌, ltb, length, drop, set};
 ghost use Rattle.fold.specs.Cells.{pairs};
 ghost use Rattle.area.specs.Areas.{made_of};
-ghost use Rattle.area.specs.Inside.Rooms.{Walkable, Cut};
+ghost use Rattle.area.specs.Inside.Rooms.{Cut};
 
-use crate::cursors::{END, piece_at};
+use crate::cursors::{END, START};
 use crate::cutting::level;
-use crate::operation::Operation;
+use crate::overlay::Overlay;
 use triple::domain::position_count;
 
 // Stores a pair, or nothing where the cells are only counted.
+// Stays a flag beside the buffer: with a closure that stores, tried in its place, a proof knows neither that its
+// index is inside the buffer nor what the buffer holds after the walk.
 fn note(writing: bool, n: usize, resolution: u64, position: u64, out: &mut [u64])
     requires { writing ≡ true → 2 * n + 1 < length out.old }
     ensures { out.new ≡ cond writing (set (set out.old (2 * n) resolution) (2 * n + 1) position) out.old }
 {
     if writing {
-        store(n, resolution, position, out);
+        out[2 * n] = resolution;
+        out[2 * n + 1] = position;
     }
-}
-
-fn store(n: usize, resolution: u64, position: u64, out: &mut [u64])
-    requires { 2 * n + 1 < length out.old }
-    ensures { out.new ≡ set (set out.old (2 * n) resolution) (2 * n + 1) position }
-{
-    out[2 * n] = resolution;
-    out[2 * n + 1] = position;
 }
 
 // Cuts the first cell off the run from lo to hi: notes it, and returns its size.
@@ -41,49 +36,40 @@ fn cut(writing: bool, n: usize, lo: u64, hi: u64, out: &mut [u64]) -> u64
 fn is_closed(inside: bool, lo: u64, hi: u64) -> bool
     ensures { result ≡ (not inside && ltb lo hi) }
 {
-    if inside {
-        return false;
-    }
-    lo < hi
+    !inside && lo < hi
 }
 
 // Where the run begins once the next piece is taken: as before, or behind what is not kept.
 fn begin(inside: bool, lo: u64, end: u64) -> u64
     ensures { result ≡ cond inside lo end }
 {
-    if inside {
-        return lo;
-    }
-    end
+    if inside { lo } else { end }
 }
 
-// The cells that an operation makes of two areas: counted, and written or not. The run from lo to hi
-// is kept, and x is the piece from hi on.
-pub(crate) fn walk(
-    operation: Operation,
-    a: &[u64],
-    b: &[u64],
-    writing: bool,
-    out: &mut [u64],
-) -> usize
-    requires { Walkable operation a.now b.now writing out.old }
-    ensures { (result ≡ length (made_of operation a.now b.now)) × (out.new ≡ cond writing (pairs (made_of operation a.now b.now) ++ drop (2 * length (made_of operation a.now b.now)) out.old) out.old) }
-{
-    let mut n = 0;
-    let mut lo = 0;
-    let mut hi = 0;
-    let mut x = piece_at(operation, a, b, 0, 0, 0);
-    loop {
-        if is_closed(x.inside, lo, hi) {
-            lo += cut(writing, n, lo, hi, out);
-            n += 1;
-            continue;
+impl Overlay<'_> {
+    // The cells that the operation makes of the two areas: counted, and written or not. The run from lo to
+    // hi is kept, and x is the piece from hi on.
+    pub(crate) fn walk(&self, writing: bool, out: &mut [u64]) -> usize
+        requires { writing ≡ true → 2 * length (made_of self.now.operation self.now.a.now self.now.b.now) ≤ length out.old }
+        ensures { (result ≡ length (made_of self.now.operation self.now.a.now self.now.b.now)) × (out.new ≡ cond writing (pairs (made_of self.now.operation self.now.a.now self.now.b.now) ++ drop (2 * length (made_of self.now.operation self.now.a.now self.now.b.now)) out.old) out.old) }
+    {
+        let mut n = 0;
+        let mut lo = 0;
+        let mut hi = 0;
+        let mut x = self.piece_after(START);
+        // Stays a loop: each turn cuts a cell off the run or takes the next piece, and no list is gone through.
+        loop {
+            if is_closed(x.inside, lo, hi) {
+                lo += cut(writing, n, lo, hi, out);
+                n += 1;
+                continue;
+            }
+            lo = begin(x.inside, lo, x.end);
+            hi = x.end;
+            if hi >= END {
+                return n;
+            }
+            x = self.piece_after(x);
         }
-        lo = begin(x.inside, lo, x.end);
-        hi = x.end;
-        if hi >= END {
-            return n;
-        }
-        x = piece_at(operation, a, b, x.i, x.j, hi);
     }
 }

@@ -9,12 +9,14 @@ use lib.Dec.{ltb}
 use lib.IntN.{ℤ}
 use lib.ListN.{length}
 use borrow.Author.Tests.{le-ltb, lt-ltb}
+use Rattle.std.specs.Prelude.{Result, Ok, Err}
 use Rattle.triple.specs.declared.refusal.Refusal.{Refusal}
 use Rattle.triple.specs.declared.refusal.Refusal.TheVariants.{Room, Part}
 use Rattle.triple.specs.Refusals.{told, number_of}
 use Rattle.triple.specs.Lent.{status_of, after_call}
 use Rattle.grammar.specs.Tests.{Verdict, fine, fault}
-use Rattle.tables.specs.declared.compiler.CompileAnswer.{CompileAnswer}
+use Rattle.grammar.specs.declared.tests.Fault.{Fault}
+use Rattle.tables.specs.declared.compiler.CompileError.{CompileError}
 use Rattle.tables.specs.Compiler.{Compiled, states, faulty, said_compiled, compiled_in, after_compile, state_count, unless}
 use Rattle.tables.specs.Compiler as Compiler
 use Rattle.tables.specs.Parts.{is_past}
@@ -27,16 +29,16 @@ use Rattle.capi.proofs.FaultLaws.{Few, verdict_few, fault_few}
 module _ (text : List ℕ) (size start : ℕ) (out : List ℕ) where
   status_by : {c : Compiled} → c ≡ compiled_in text size start → 256 * fault_line c + status_of (compiled_values c) out ≡ compile_status text size start out
   unfolding compile_status
-  status_by said = ap (λ c. 256 * fault_line c + status_of (compiled_values c) out) said
+  status_by says = ap (λ c. 256 * fault_line c + status_of (compiled_values c) out) says
 
   count_by : {c : Compiled} → c ≡ compiled_in text size start → after_call (compiled_values c) out ≡ count_after text size start out
   unfolding count_after
-  count_by said = ap (λ c. after_call (compiled_values c) out) said
+  count_by says = ap (λ c. after_call (compiled_values c) out) says
 
-  module _ {a : CompileAnswer} (said : said_compiled a ≡ compiled_in text size start) where
-    module _ {k : ℕ} (e : a ≡ CompileAnswer.States k) where
+  module _ {a : Result ℕ CompileError} (says : said_compiled a ≡ compiled_in text size start) where
+    module _ {k : ℕ} (e : a ≡ Ok k) where
       told_states : states k ≡ compiled_in text size start
-      told_states = ap said_compiled (sym e) ∙ said
+      told_states = ap said_compiled (sym e) ∙ says
 
       pub states_status : {n : ℕ} → n ≡ status_of (told (count_values k)) out → n ≡ compile_status text size start out
       states_status p = omega (arith, status_by told_states)
@@ -44,11 +46,11 @@ module _ (text : List ℕ) (size start : ℕ) (out : List ℕ) where
       pub states_count : {y : List ℕ} → y ≡ after_call (told (count_values k)) out → y ≡ count_after text size start out
       states_count p = p ∙ count_by told_states
 
-    module _ {f : Refusal} {line : ℕ} (e : a ≡ CompileAnswer.Fault f line) where
-      told_faulty : faulty (number_of f) line ≡ compiled_in text size start
-      told_faulty = ap said_compiled (sym e) ∙ said
+    module _ {d : Fault} (e : a ≡ Err (CompileError.Fault d)) where
+      told_faulty : faulty (number_of d.refusal) d.line ≡ compiled_in text size start
+      told_faulty = ap said_compiled (sym e) ∙ says
 
-      pub faulty_status : {n : ℕ} → n ≡ 256 * line + number_of f → n ≡ compile_status text size start out
+      pub faulty_status : {n : ℕ} → n ≡ 256 * d.line + number_of d.refusal → n ≡ compile_status text size start out
       unfolding status_of
       faulty_status p = p ∙ status_by told_faulty
 
@@ -57,12 +59,12 @@ module _ (text : List ℕ) (size start : ℕ) (out : List ℕ) where
       faulty_count = count_by told_faulty
 
       -- a line goes into a byte
-      pub line_small : line ≤ 9
+      pub line_small : d.line ≤ 9
       line_small = (fault_few text (when_faulty text size start told_faulty)).1
 
-    module _ {f : Refusal} (e : a ≡ CompileAnswer.Refused f) where
+    module _ {f : Refusal} (e : a ≡ Err (CompileError.Refused f)) where
       told_refused : Compiler.refused (number_of f) ≡ compiled_in text size start
-      told_refused = ap said_compiled (sym e) ∙ said
+      told_refused = ap said_compiled (sym e) ∙ says
 
       pub refused_status : {n : ℕ} → n ≡ number_of f → n ≡ compile_status text size start out
       unfolding status_of
@@ -78,9 +80,9 @@ none [] h = refl
 none (x ∷ out) h = let z : ⊥ = omega arith in absurd z
 
 module _ (text : List ℕ) (size start : ℕ) where
-  pub place_status : {a : CompileAnswer} → said_compiled a ≡ compiled_in text size start → {k : ℕ} → a ≡ CompileAnswer.States k → {n : ℕ} → n ≡ number_of Room → n ≡ compile_status text size start []
+  pub place_status : {a : Result ℕ CompileError} → said_compiled a ≡ compiled_in text size start → {k : ℕ} → a ≡ Ok k → {n : ℕ} → n ≡ number_of Room → n ≡ compile_status text size start []
   unfolding status_of
-  place_status said e p = states_status text size start [] said e p
+  place_status says e p = states_status text size start [] says e p
 
   pub none_status : (out : List ℕ) → length out < 1 → {n : ℕ} → n ≡ compile_status text size start [] → n ≡ compile_status text size start out
   none_status out h p = p ∙ ap (compile_status text size start) (sym (none out h))

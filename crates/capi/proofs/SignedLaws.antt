@@ -55,5 +55,5 @@ pub pair_made : {a b : ℤ} → Fitting w64 (a ∷ b ∷ []) → {p : AB} → p 
 pair_made {a} {b} f e = rw (to_z-of_z w64 a f.0, to_z-of_z w64 b f.1.0) at e
 
 -- what a polygon's writer says of the one triple it says of the other
-pub polygon_made : (r : ℕ) (slice : List ℕ) (said : Told ℕ) (after : List ℕ) {t u : Triple} → t ≡ u → Counted (wkt_of r t) slice said after → Counted (wkt_of r u) slice said after
-polygon_made r slice said after e p = subst (λ (t : Triple). Counted (wkt_of r t) slice said after) e p
+pub polygon_made : (r : ℕ) (slice : List ℕ) (says : Told ℕ) (after : List ℕ) {t u : Triple} → t ≡ u → Counted (wkt_of r t) slice says after → Counted (wkt_of r u) slice says after
+polygon_made r slice says after e p = subst (λ (t : Triple). Counted (wkt_of r t) slice says after) e p

@@ -2,24 +2,25 @@
 use mathlib.Core.Path.{◌≡◌, ap}
 use mathlib.Core.List.{List}
 use Prim.Native.Nat.{ℕ}
+use Rattle.std.specs.Prelude.{Result, Ok, Err}
 use Rattle.triple.specs.Lent.{Called}
 use Rattle.triple.specs.declared.refusal.Refusal.{Refusal}
 use Rattle.triple.specs.Refusals.{told, number_of}
 use Rattle.triple.proofs.LentLaws.{call_told, call_refused}
 use Rattle.treated.specs.declared.Fault.{Fault}
-use Rattle.treated.specs.declared.CheckAnswer.{CheckAnswer}
+use Rattle.treated.specs.declared.CheckError.{CheckError}
 use Rattle.treated.specs.Treated.{check_of}
 use Rattle.treated.specs.Answers.{said_check}
 use Rattle.capi.specs.Verdicts.{fault_number, verdict_numbers, verdict_values, check_call}
 
-module _ (list slice : List ℕ) {a : CheckAnswer} (answers : said_check a ≡ check_of list) {n : ℕ} where
-  pub verdict_good : {count : ℕ} → a ≡ CheckAnswer.Good count → {after : List ℕ} → Called (told (verdict_numbers 0 count)) slice n after → Called (check_call list) slice n after
+module _ (list slice : List ℕ) {a : Result ℕ CheckError} (answers : said_check a ≡ check_of list) {n : ℕ} where
+  pub verdict_good : {count : ℕ} → a ≡ Ok count → {after : List ℕ} → Called (told (verdict_numbers 0 count)) slice n after → Called (check_call list) slice n after
   verdict_good m c = call_told verdict_values slice answers (ap said_check m) c
 
-  pub verdict_faulty : {f : Fault} {number : ℕ} → a ≡ CheckAnswer.Faulty f number → {k : ℕ} → k ≡ fault_number f → {after : List ℕ} → Called (told (verdict_numbers k number)) slice n after → Called (check_call list) slice n after
+  pub verdict_faulty : {f : Fault} {number : ℕ} → a ≡ Err (CheckError.Faulty f number) → {k : ℕ} → k ≡ fault_number f → {after : List ℕ} → Called (told (verdict_numbers k number)) slice n after → Called (check_call list) slice n after
   verdict_faulty m e c = call_told verdict_values slice answers (ap said_check m) (rw e at c)
 
-  pub verdict_refused : {e : Refusal} → a ≡ CheckAnswer.Refused e → n ≡ number_of e → Called (check_call list) slice n slice
+  pub verdict_refused : {e : Refusal} → a ≡ Err (CheckError.Refused e) → n ≡ number_of e → Called (check_call list) slice n slice
   verdict_refused m e = call_refused verdict_values slice answers (ap said_check m) e
 
 -- ---- a fault's number

@@ -7,10 +7,7 @@ ghost use Rattle.area.specs.declared.operation.Operation.{Operation};
 ghost use Rattle.capi.specs.AreaCalls.{combined_call, flag_values, area_contains_call, area_size_call, reported_call, reported_work};
 
 use crate::put::{lendable, put_count};
-use area::combining::AreaAnswer;
 use area::operation::Operation;
-use area::questions::{ContainsAnswer, SizeAnswer};
-use fold::folding::FoldAnswer;
 
 // What an operation makes of two areas: the pairs to `pairs`, and how many cells they are to `count`.
 fn combined(operation: Operation, a: &[u64], b: &[u64], pairs: &mut [u64], count: &mut [u64]) -> u8
@@ -19,8 +16,8 @@ fn combined(operation: Operation, a: &[u64], b: &[u64], pairs: &mut [u64], count
     let room = lendable(pairs.len(), count.len());
     let answer = area::combining::combine(operation, a, b, &mut pairs[..room]);
     match answer {
-        AreaAnswer::Pairs(cells) => put_count(cells, count),
-        AreaAnswer::Refused(e) => e.number(),
+        Ok(cells) => put_count(cells, count),
+        Err(e) => e.number(),
     }
 }
 
@@ -61,8 +58,8 @@ pub fn hb_area_contains(a: &[u64], resolution: u8, s: u64, out: &mut [u64]) -> u
 {
     let answer = area::questions::contains(a, resolution, s);
     match answer {
-        ContainsAnswer::Contained(inside) => put_flag(inside, out),
-        ContainsAnswer::Refused(e) => e.number(),
+        Ok(inside) => put_flag(inside, out),
+        Err(e) => e.number(),
     }
 }
 
@@ -72,8 +69,8 @@ pub fn hb_area_size(a: &[u64], resolution: u8, out: &mut [u64]) -> u8
 {
     let answer = area::questions::size(a, resolution);
     match answer {
-        SizeAnswer::Cells(cells) => put_count(cells as usize, out),
-        SizeAnswer::Refused(e) => e.number(),
+        Ok(cells) => put_count(cells as usize, out),
+        Err(e) => e.number(),
     }
 }
 
@@ -98,7 +95,7 @@ pub fn hb_area_report(
         &mut pairs[..room],
     );
     match answer {
-        FoldAnswer::Folded(cells) => put_count(cells, count),
-        FoldAnswer::Refused(e) => e.number(),
+        Ok(cells) => put_count(cells, count),
+        Err(e) => e.number(),
     }
 }

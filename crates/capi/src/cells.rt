@@ -5,9 +5,6 @@ ghost use Rattle.capi.specs.Calls.{cell_call, position_call};
 ghost use Rattle.sketch.specs.Drawings.{draw_call};
 
 use crate::put::{put_cell, put_position};
-use lsystem::cell::CellAnswer;
-use lsystem::lookup::PositionAnswer;
-use sketch::DrawAnswer;
 use triple::Triple;
 
 // The cell that a position names: x y z flavor.
@@ -16,8 +13,8 @@ pub fn hb_cell(orientation: u8, resolution: u8, s: u64, out: &mut [i32]) -> u8
 {
     let answer = lsystem::cell::s_to_cell(orientation, resolution, s);
     match answer {
-        CellAnswer::Cell(c) => put_cell(c, out),
-        CellAnswer::Refused(e) => e.number(),
+        Ok(c) => put_cell(c, out),
+        Err(e) => e.number(),
     }
 }
 
@@ -27,8 +24,8 @@ pub fn hb_draw(orientation: u8, resolution: u8, out: &mut [i32]) -> u8
 {
     let answer = sketch::draw(orientation, resolution, out);
     match answer {
-        DrawAnswer::Written(_) => 0,
-        DrawAnswer::Refused(e) => e.number(),
+        Ok(_) => 0,
+        Err(e) => e.number(),
     }
 }
 
@@ -38,7 +35,7 @@ pub fn hb_position(orientation: u8, resolution: u8, x: i32, y: i32, z: i32, out:
 {
     let answer = lsystem::lookup::triple_to_s(orientation, resolution, Triple::new(x, y, z));
     match answer {
-        PositionAnswer::At(l) => put_position(l, out),
-        PositionAnswer::Refused(e) => e.number(),
+        Ok(l) => put_position(l, out),
+        Err(e) => e.number(),
     }
 }

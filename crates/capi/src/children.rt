@@ -5,7 +5,7 @@ ghost use Rattle.capi.specs.Calls.{node_call, step_call};
 ghost use Rattle.capi.specs.Inside.Given.{clipped, frame_clipped};
 
 use crate::put::{put_node, put_step};
-use nodes::{ChildAnswer, Frame, Node, ReachedAnswer};
+use nodes::{Frame, Node};
 use triple::Triple;
 
 // The node below a cell: orientation resolution motif flip to `numbers`, and its two positions to
@@ -23,8 +23,8 @@ pub fn hb_node(
 {
     let answer = nodes::triple_to_curve_node(orientation, resolution, Triple::new(x, y, z));
     match answer {
-        ReachedAnswer::Reached(p) => put_node(p.node, numbers, places),
-        ReachedAnswer::Refused(e) => e.number(),
+        Ok(p) => put_node(p.node, numbers, places),
+        Err(e) => e.number(),
     }
 }
 
@@ -47,8 +47,8 @@ pub fn hb_child(
     let frame = frame_given(motif, flip, a, b);
     let answer = Node::new(orientation, resolution, frame).child(digit);
     match answer {
-        ChildAnswer::Child(c) => put_step(c, numbers, places),
-        ChildAnswer::Refused(e) => e.number(),
+        Ok(c) => put_step(c, numbers, places),
+        Err(e) => e.number(),
     }
 }
 

@@ -6,9 +6,7 @@ ghost use Rattle.capi.specs.Verdicts.{check_call};
 
 use crate::put::{lendable, put_count, put_reading, put_stepped, put_tally};
 use crate::verdict::{fault_number, put_verdict};
-use code::{ReadAnswer, WriteAnswer};
-use mend::{MendAnswer, StepAnswer};
-use treated::CheckAnswer;
+use treated::CheckError;
 use triple::refusal::Refusal;
 
 // Writes a position's code to `bytes`, and the count of its bytes to `out`.
@@ -24,8 +22,8 @@ pub fn hb_code_write(
     let room = lendable(bytes.len(), out.len());
     let answer = code::write(orientation, resolution, s, &mut bytes[..room]);
     match answer {
-        WriteAnswer::Written(count) => put_count(count, out),
-        WriteAnswer::Refused(e) => e.number(),
+        Ok(count) => put_count(count, out),
+        Err(e) => e.number(),
     }
 }
 
@@ -35,8 +33,8 @@ pub fn hb_code_read(bytes: &[u8], out: &mut [u64]) -> u8
 {
     let answer = code::read(bytes);
     match answer {
-        ReadAnswer::Read(r) => put_reading(r, out),
-        ReadAnswer::Refused(e) => e.number(),
+        Ok(r) => put_reading(r, out),
+        Err(e) => e.number(),
     }
 }
 
@@ -50,8 +48,8 @@ pub fn hb_mend(list: &[u8], out: &mut [u8], counts: &mut [u64]) -> u8
     }
     let answer = mend::mend(list, out);
     match answer {
-        MendAnswer::Mended(t) => put_tally(t, counts),
-        MendAnswer::Refused(e) => e.number(),
+        Ok(t) => put_tally(t, counts),
+        Err(e) => e.number(),
     }
 }
 
@@ -65,8 +63,8 @@ pub fn hb_mend_step(rest: &[u8], out: &mut [u8], counts: &mut [u64]) -> u8
     }
     let answer = mend::step(rest, out);
     match answer {
-        StepAnswer::Taken(x) => put_stepped(x, counts),
-        StepAnswer::Refused(e) => e.number(),
+        Ok(x) => put_stepped(x, counts),
+        Err(e) => e.number(),
     }
 }
 
@@ -77,8 +75,10 @@ pub fn hb_check(list: &[u8], out: &mut [u64]) -> u8
 {
     let answer = treated::check(list);
     match answer {
-        CheckAnswer::Good(n) => put_verdict(0, n, out),
-        CheckAnswer::Faulty(f, n) => put_verdict(fault_number(f), n, out),
-        CheckAnswer::Refused(e) => e.number(),
+        Ok(n) => put_verdict(0, n, out),
+        Err(e) => match e {
+            CheckError::Faulty(f, n) => put_verdict(fault_number(f), n, out),
+            CheckError::Refused(e) => e.number(),
+        },
     }
 }

@@ -4,8 +4,6 @@ ghost use Rattle.triple.specs.Lent.{status_of, after_call, first_of, second_of};
 ghost use Rattle.capi.specs.Calls.{folded_call, unfolded_call};
 
 use crate::put::{lendable, put_count};
-use fold::folding::FoldAnswer;
-use fold::unfolding::UnfoldAnswer;
 
 // The fewest whole cells that cover a list of positions: resolution and position of each, in curve
 // order, to `pairs`, and how many cells they are to `count`.
@@ -21,8 +19,8 @@ pub fn hb_fold(
     let room = lendable(pairs.len(), count.len());
     let answer = fold::folding::fold(orientation, resolution, positions, &mut pairs[..room]);
     match answer {
-        FoldAnswer::Folded(cells) => put_count(cells, count),
-        FoldAnswer::Refused(e) => e.number(),
+        Ok(cells) => put_count(cells, count),
+        Err(e) => e.number(),
     }
 }
 
@@ -40,7 +38,7 @@ pub fn hb_unfold(
     let room = lendable(positions.len(), count.len());
     let answer = fold::unfolding::unfold(orientation, resolution, pairs, &mut positions[..room]);
     match answer {
-        UnfoldAnswer::Unfolded(covered) => put_count(covered, count),
-        UnfoldAnswer::Refused(e) => e.number(),
+        Ok(covered) => put_count(covered, count),
+        Err(e) => e.number(),
     }
 }

@@ -5,8 +5,7 @@ ghost use Rattle.capi.specs.Calls.{descend_call, compile_status, table_after, co
 ghost use Rattle.triple.specs.Refusals.{number_of};
 
 use crate::put::{put_count, put_drawn};
-use descent::DescentAnswer;
-use tables::compiler::CompileAnswer;
+use tables::compiler::CompileError;
 use triple::refusal::Refusal;
 
 // The cell at place s of what a part of a table gives, whoever wrote it, after `passes` passes from a
@@ -26,8 +25,8 @@ pub fn hb_descend(
     let count = states as usize;
     let answer = descent::descend_table(table, from, count, passes, token as usize, s);
     match answer {
-        DescentAnswer::At(c) => put_drawn(c, out),
-        DescentAnswer::Refused(e) => e.number(),
+        Ok(c) => put_drawn(c, out),
+        Err(e) => e.number(),
     }
 }
 
@@ -41,9 +40,11 @@ pub fn hb_compile(text: &[u8], table: &mut [i32], start: u64, out: &mut [u64]) -
     }
     let answer = tables::compiler::compile_grammar(text, table, start as usize);
     match answer {
-        CompileAnswer::States(count) => put_count(count, out) as u16,
-        CompileAnswer::Fault(e, line) => status_at(e, line),
-        CompileAnswer::Refused(e) => e.number() as u16,
+        Ok(count) => put_count(count, out) as u16,
+        Err(e) => match e {
+            CompileError::Fault(f) => status_at(f.refusal, f.line),
+            CompileError::Refused(e) => e.number() as u16,
+        },
     }
 }
 
@@ -54,9 +55,11 @@ fn status_without_place(text: &[u8], size: usize, start: usize) -> u16
 {
     let answer = tables::compiler::judge_grammar(text, size, start);
     match answer {
-        CompileAnswer::States(_) => Refusal::Room.number() as u16,
-        CompileAnswer::Fault(e, line) => status_at(e, line),
-        CompileAnswer::Refused(e) => e.number() as u16,
+        Ok(_) => Refusal::Room.number() as u16,
+        Err(e) => match e {
+            CompileError::Fault(f) => status_at(f.refusal, f.line),
+            CompileError::Refused(e) => e.number() as u16,
+        },
     }
 }
 

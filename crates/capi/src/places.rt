@@ -4,10 +4,8 @@ ghost use Rattle.triple.specs.Lent.{status_of, after_call};
 ghost use Rattle.capi.specs.Calls.{point_call, exact_point_call, corner_call, triple_call};
 
 use crate::put::{put_pair, put_point, put_triple};
-use curve::PointAnswer;
 use triple::Triple;
 use turtle::AB;
-use turtle::corner::{CornerAnswer, TripleAnswer};
 
 // The cell that a point falls in, and whether it was moved to come into bounds: x y z moved.
 pub fn hb_point(i: f64, j: f64, resolution: u8, out: &mut [i32]) -> u8
@@ -15,8 +13,8 @@ pub fn hb_point(i: f64, j: f64, resolution: u8, out: &mut [i32]) -> u8
 {
     let answer = curve::round_to_triple(i, j, resolution);
     match answer {
-        PointAnswer::At(p) => put_point(p, out),
-        PointAnswer::Refused(e) => e.number(),
+        Ok(p) => put_point(p, out),
+        Err(e) => e.number(),
     }
 }
 
@@ -26,8 +24,8 @@ pub fn hb_point_exact(i: f64, j: f64, resolution: u8, out: &mut [i32]) -> u8
 {
     let answer = curve::round_exactly(i, j, resolution);
     match answer {
-        PointAnswer::At(p) => put_point(p, out),
-        PointAnswer::Refused(e) => e.number(),
+        Ok(p) => put_point(p, out),
+        Err(e) => e.number(),
     }
 }
 
@@ -37,8 +35,8 @@ pub fn hb_corner_sum(x: i32, y: i32, z: i32, out: &mut [i64]) -> u8
 {
     let answer = turtle::corner::corner_sum(Triple::new(x, y, z));
     match answer {
-        CornerAnswer::Sum(p) => put_pair(p, out),
-        CornerAnswer::Refused(e) => e.number(),
+        Ok(p) => put_pair(p, out),
+        Err(e) => e.number(),
     }
 }
 
@@ -48,7 +46,7 @@ pub fn hb_triple(a: i64, b: i64, out: &mut [i32]) -> u8
 {
     let answer = AB::new(a, b).to_triple();
     match answer {
-        TripleAnswer::At(t) => put_triple(t, out),
-        TripleAnswer::Refused(e) => e.number(),
+        Ok(t) => put_triple(t, out),
+        Err(e) => e.number(),
     }
 }

@@ -4,7 +4,6 @@ ghost use Rattle.triple.specs.Lent.{status_of, after_call, first_of, second_of};
 ghost use Rattle.capi.specs.Calls.{wkt_write_call, wkt_read_call};
 
 use crate::put::{lendable, put_count, put_triple};
-use polygon::{PolygonAnswer, TextAnswer};
 use triple::Triple;
 
 // Writes the polygon of a cell to `text`, and its length to `out`.
@@ -14,8 +13,8 @@ pub fn hb_wkt_write(resolution: u8, x: i32, y: i32, z: i32, text: &mut [u8], out
     let room = lendable(text.len(), out.len());
     let answer = polygon::write(resolution, Triple::new(x, y, z), &mut text[..room]);
     match answer {
-        TextAnswer::Written(count) => put_count(count, out),
-        TextAnswer::Refused(e) => e.number(),
+        Ok(count) => put_count(count, out),
+        Err(e) => e.number(),
     }
 }
 
@@ -25,7 +24,7 @@ pub fn hb_wkt_read(resolution: u8, text: &[u8], out: &mut [i32]) -> u8
 {
     let answer = polygon::read(resolution, text);
     match answer {
-        PolygonAnswer::Cell(t) => put_triple(t, out),
-        PolygonAnswer::Refused(e) => e.number(),
+        Ok(t) => put_triple(t, out),
+        Err(e) => e.number(),
     }
 }

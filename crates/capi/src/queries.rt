@@ -4,7 +4,6 @@ ghost use Rattle.triple.specs.Lent.{status_of, after_call, first_of, second_of};
 ghost use Rattle.capi.specs.Calls.{line_call};
 
 use crate::put::{lendable, put_count};
-use query::print::PrintAnswer;
 
 // The answer to a query line as the program prints it, without LF, to `text`, and its length to `out`.
 // A line that is refused has an answer too, `!` and the number.
@@ -14,7 +13,7 @@ pub fn hb_line(line: &[u8], text: &mut [u8], out: &mut [u64]) -> u8
     let room = lendable(text.len(), out.len());
     let answer = query::answer::answer_line(line, &mut text[..room]);
     match answer {
-        PrintAnswer::Printed(count) => put_count(count, out),
-        PrintAnswer::Refused(e) => e.number(),
+        Ok(count) => put_count(count, out),
+        Err(e) => e.number(),
     }
 }

@@ -1,22 +1,29 @@
 -- What a comparison or a difference of machine integers is worth: a number read back from its bits is itself.
-use mathlib.Core.Path.{◌≡◌, refl, sym, ap, ap₂, subst, ◌∙◌}
+use mathlib.Core.Path.{◌≡◌, refl, sym, ap₂, subst, ◌∙◌}
 use mathlib.Core.Bool.{Bool, true, false, ◌&&◌, ◌||◌}
-use Prim.Native.Nat.{ℕ, ◌+◌, ◌<◌, ◌≤◌, ◌^◌}
+use Prim.Native.Nat.{ℕ, ◌<◌, ◌^◌}
 use native.Mathlib.Omega.{arith}
-use lib.Dec.{T, eqb, leb, leb→le}
+use lib.Dec.{T, leb, leb→le}
 use lib.IntN.{ℤ, pos, neg_ℤ, ◌-ℤ◌, ◌*ℤ◌}
-use lib.Signed.{le_z, lt_z, le_z_yes, lt_z_yes, mag}
-use mir.Syntax.{Width, w8, w64}
-use mir.Val.{SFits, to_z, of_z}
+use lib.Signed.{mag}
+use mir.Syntax.{w8, w64}
+use mir.Val.{SFits}
 use mir.ValLaws.{to_z-of_z}
-use borrow.Author.Tests.{eqb-true, eqb-false}
+use Rattle.std.specs.Cmp.{signed_Decides}
+use Rattle.std.proofs.lemmas.Int.{ints}
+use Rattle.std.specs.Ordering.{is_some_and, is_le, int_cmp, int_eq, partial_ordering_then}
+use Rattle.std.proofs.Common.{Some}
+use Rattle.std.proofs.lemmas.Bool.{false≢true}
 use Rattle.whole.specs.Tests.{equal}
 use Rattle.whole.proofs.Bools.{both_left, both_right, is_true, is_false}
-use Rattle.whole.proofs.Equals.{equal_sound, equal_same}
-use Rattle.whole.proofs.Parts.{up, dn, up_pos, dn_pos, neg_up, neg_dn, parts_le, parts_lt, le_parts, lt_parts}
+use Rattle.whole.proofs.Equals.{equal_sound, is_equal}
+use Rattle.whole.proofs.Parts.{up_pos, dn_pos, neg_up, neg_dn, le_parts}
 use Rattle.whole.proofs.View.{View, rd, v_mag, v_prod, v_add, v_neg, seen, fits, kept}
 use Rattle.turtle.specs.declared.AB.{AB}
 use Rattle.turtle.specs.Inside.Sizes.{Within}
+use Rattle.turtle.specs.Plane.{equal_ab}
+use Rattle.classifier.specs.declared.Corner.{Corner}
+use Rattle.classifier.specs.Shapes.{point_of}
 use Rattle.classifier.specs.Hulls.{earlier, cross}
 
 -- ---- a leaf of eight bits
@@ -28,60 +35,27 @@ v_fit8 x f = v_mag w8 x f.sfits
 
 pub ruleset seen8 = (seen, v_i8, v_fit8)
 
--- ---- equality by bits
-module _ (w : Width) (x y : ℤ) (f : SFits w x) (g : SFits w y) where
-  one : of_z w x ≡ of_z w y → x ≡ y
-  one e = sym (to_z-of_z w x f) ∙ ap (to_z w) e ∙ to_z-of_z w y g
+-- ---- equality of the fields, as the derived `==` has it
+pub same_int : (x y : ℤ) → equal x y ≡ int_eq x y
+same_int x y = go (int_eq x y) refl
+  where
+    go : (b : Bool) → int_eq x y ≡ b → equal x y ≡ b
+    go true e = sym (is_true (equal x y) (is_equal x y ((signed_Decides x y).0 e)))
+    go false e = sym (is_false (equal x y) (λ t. absurd (false≢true (sym e ∙ (signed_Decides x y).1 (equal_sound x y t)))))
 
-  pub same_bits : eqb (of_z w x) (of_z w y) ≡ equal x y
-  same_bits = go (eqb (of_z w x) (of_z w y)) refl
-    where
-      go : (t : Bool) → eqb (of_z w x) (of_z w y) ≡ t → t ≡ equal x y
-      go true e = is_true (equal x y) (subst (λ y. T (equal x y)) (one (eqb-true (of_z w x) (of_z w y) e)) (equal_same x))
-      go false e = is_false (equal x y) (λ t. eqb-false (of_z w x) (of_z w y) e (ap (of_z w) (equal_sound x y t)))
+pub same_point : (p q : Corner) → int_eq p.a q.a && int_eq p.b q.b ≡ equal_ab (point_of p) (point_of q)
+same_point p q = sym (ap₂ ◌&&◌ (same_int p.a q.a) (same_int p.b q.b))
 
-  pub equal_yes : of_z w x ≡ of_z w y → T (equal x y)
-  equal_yes e = subst (λ y. T (equal x y)) (one e) (equal_same x)
+-- ---- the order of points, as the derived `<=` has it
+abbrev pub first_or_same : Corner → Corner → Bool
+first_or_same p q = is_some_and is_le (partial_ordering_then (Some (int_cmp p.a q.a)) (Some (int_cmp p.b q.b)))
 
-  pub equal_no : (of_z w x ≡ of_z w y → ⊥) → T (equal x y) → ⊥
-  equal_no h t = h (ap (of_z w) (equal_sound x y t))
+pub at_most : (p q : Corner) → first_or_same p q ≡ earlier (point_of p) (point_of q) || equal_ab (point_of p) (point_of q)
+at_most p q = grind (arith, ints)
 
-  pub less_read : lt_z (rd w x) (rd w y) ≡ lt_z x y
-  less_read = ap₂ lt_z (to_z-of_z w x f) (to_z-of_z w y g)
-
--- ---- flags
-pub and_true : (a b : Bool) → T a → b ≡ a && b
-and_true true b t = refl
-and_true false b t = absurd t
-
-pub and_false : (a b : Bool) → (T a → ⊥) → false ≡ a && b
-and_false true b h = absurd (h tt)
-and_false false b h = refl
-
--- ---- the order of points
-module _ (p q : AB) where
-  pub earlier_less : up p.a + dn q.a < up q.a + dn p.a → true ≡ earlier p q
-  earlier_less h = left (lt_z p.a q.a) (le_z p.a q.a && lt_z p.b q.b) (lt_parts p.a q.a h).lt
-    where
-      left : (t u : Bool) → T t → true ≡ t || u
-      left true u h = refl
-      left false u h = absurd h
-
-  not_less : up q.a + dn p.a ≤ up p.a + dn q.a → T (lt_z p.a q.a) → ⊥
-  not_less h t = let k = parts_lt (lt_z_yes {a = p.a} {b = q.a} t) in omega arith
-
-  right : (t u : Bool) → (T t → ⊥) → u ≡ t || u
-  right true u h = absurd (h tt)
-  right false u h = refl
-
-  pub earlier_more : up q.a + dn p.a < up p.a + dn q.a → false ≡ earlier p q
-  earlier_more h =
-      and_false (le_z p.a q.a) (lt_z p.b q.b) (λ t. let k = parts_le (le_z_yes {a = p.a} {b = q.a} t) in omega arith)
-      ∙ right (lt_z p.a q.a) (le_z p.a q.a && lt_z p.b q.b) (not_less (omega arith))
-
-  pub earlier_level : {r : Bool} → up q.a + dn p.a ≤ up p.a + dn q.a → up p.a + dn q.a ≤ up q.a + dn p.a → r ≡ lt_z p.b q.b → r ≡ earlier p q
-  earlier_level h k e =
-      e ∙ and_true (le_z p.a q.a) (lt_z p.b q.b) (le_parts p.a q.a k).le ∙ right (lt_z p.a q.a) (le_z p.a q.a && lt_z p.b q.b) (not_less h)
+-- a point that goes before another is not the same
+pub not_both : (p q : AB) → earlier p q ≡ true → equal_ab p q ≡ true → ⊥
+not_both p q e f = grind (arith, ints, e, f)
 
 -- ---- the turn, read back from its steps
 abbrev wide : ℤ → ℤ
@@ -133,18 +107,3 @@ within_by n {z} v t =
       low = le_parts (neg_ℤ (pos n)) z (omega (arith, neg_up (pos n), neg_dn (pos n), up_pos n, dn_pos n));
       high = le_parts z (pos n) (omega (arith, up_pos n, dn_pos n));
     }
-
--- ---- three comparisons, each after the one before
-pub third_no : (a b c : Bool) → T a → (T b → ⊥) → false ≡ a && b && c
-third_no true true c s t = absurd (t tt)
-third_no true false c s t = refl
-third_no false b c s t = absurd s
-
-pub third_is : (a b c : Bool) → T a → T b → c ≡ a && b && c
-third_is true true c s t = refl
-third_is true false c s t = absurd t
-third_is false b c s t = absurd s
-
-pub first_no : (a b c : Bool) → (T a → ⊥) → false ≡ a && b && c
-first_no true b c s = absurd (s tt)
-first_no false b c s = refl

@@ -1,15 +1,21 @@
 -- ---- numbers of the machine
 -- what a comparison or a difference of machine integers is worth
 pub mod ComparisonLaws
+-- ---- searches
+-- along a list, and calls at each index
+pub mod SearchLaws
 -- ---- hulls
 -- lists with (0, 0) behind them, and writes at their end
 pub mod PaddedLaws
--- lists of points, joined, inserted, sorted and reversed
+-- the points of a hull
 pub mod HullLaws
+-- points in the first places of an array
+pub mod PointLaws
 -- how long chains and hulls are
 pub mod HullSizes
 -- a chain of points, the halves of a hull, and the hull
 pub mod ChainLaws
+-- a chain of points, the halves of a hull, and the hull
 -- ---- footprints and lines
 -- the corners of a placed footprint
 pub mod PolygonLaws

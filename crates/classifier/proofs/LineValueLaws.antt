@@ -54,9 +54,6 @@ module _ (p q : AB) (hp : Close p) (hq : Close q) where
   x_is : x_step ≡ q.b -ℤ p.b
   x_is = ap₂ ◌-ℤ◌ qb pb
 
-  pub x_fits : SFits w64 x_step
-  x_fits = fits_as x_is v_dx tt
-
   x_read : rd w64 x_step ≡ q.b -ℤ p.b
   x_read = kept w64 x_is v_dx tt
 
@@ -66,17 +63,11 @@ module _ (p q : AB) (hp : Close p) (hq : Close q) where
   d_is : a_step ≡ q.a -ℤ p.a
   d_is = ap₂ ◌-ℤ◌ qa pa
 
-  pub d_fits : SFits w64 a_step
-  d_fits = fits_as d_is v_da tt
-
   abbrev y_step : ℤ
   y_step = pos 0 -ℤ rd w64 a_step
 
   y_is : y_step ≡ neg_ℤ (q.a -ℤ p.a)
   y_is = ap (λ z. pos 0 -ℤ z) (kept w64 d_is v_da tt) ∙ minus (q.a -ℤ p.a)
-
-  pub y_fits : SFits w64 y_step
-  y_fits = fits_as y_is (v_neg v_da) tt
 
   y_read : rd w64 y_step ≡ neg_ℤ (q.a -ℤ p.a)
   y_read = kept w64 y_is (v_neg v_da) tt
@@ -117,13 +108,7 @@ module _ (p q : AB) (hp : Close p) (hq : Close q) where
   pub c_fits : SFits w64 constant
   c_fits = fits_as c_is (v_neg v_both) tt
 
-  -- each is kept by a field of 32 bits
-  pub x_narrow : SFits w32 (rd w64 x_step)
-  x_narrow = fits_as x_read v_dx tt
-
-  pub y_narrow : SFits w32 (rd w64 y_step)
-  y_narrow = fits_as y_read (v_neg v_da) tt
-
+  -- kept by a field of 32 bits
   pub c_narrow : SFits w32 (rd w64 constant)
   c_narrow = fits_as (kept w64 c_is (v_neg v_both) tt) (v_neg v_both) tt
 

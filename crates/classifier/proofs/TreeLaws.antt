@@ -1,8 +1,9 @@
 -- The tree of splits: what it is of a set by what its search found, both sides of a clean line are smaller sets, and a tree of at most four children has at most three lines.
+use Rattle.std.proofs.lemmas.Option.{none-some, same_Some}
+use Rattle.std.specs.Prelude.{Option, None, Some}
 use mathlib.Core.Path.{◌≡◌, refl, sym, ap, subst, ◌∙◌}
 use mathlib.Core.Bool.{Bool, true, false, not, ◌&&◌, cond}
 use mathlib.Core.List.{List, [], ◌∷◌, ◌++◌}
-use mathlib.Core.Option.{Option, none, some, some-ne-none, some-injective}
 use Prim.Native.Nat.{ℕ, zero, suc, ◌+◌, ◌<◌, ◌≤◌}
 use native.Mathlib.Nat.{not-suc-le-zero}
 use native.Mathlib.Omega.{arith}
@@ -24,12 +25,12 @@ side_sum s (g ∷ gs) = go (over s g.corners) (side_sum s gs)
     go true h = omega arith
     go false h = omega arith
 
-clean_of : (gs : List Polygon) (ss : List Separator) {s : Separator} → some s ≡ first_clean gs ss → T (clean gs s)
-clean_of gs [] {s} e = absurd (some-ne-none s e)
+clean_of : (gs : List Polygon) (ss : List Separator) {s : Separator} → Some s ≡ first_clean gs ss → T (clean gs s)
+clean_of gs [] {s} e = absurd (none-some s (sym e))
 clean_of gs (t ∷ ss) {s} e = go (clean gs t) refl e (clean_of gs ss)
   where
-    go : (b : Bool) → clean gs t ≡ b → some s ≡ cond b (some t) (first_clean gs ss) → (some s ≡ first_clean gs ss → T (clean gs s)) → T (clean gs s)
-    go true c e k = subst (λ u. T (clean gs u)) (sym (some-injective s t e)) (subst T (sym c) tt)
+    go : (b : Bool) → clean gs t ≡ b → Some s ≡ cond b (Some t) (first_clean gs ss) → (Some s ≡ first_clean gs ss → T (clean gs s)) → T (clean gs s)
+    go true c e k = subst (λ u. T (clean gs u)) (sym (same_Some s t e)) (subst T (sym c) tt)
     go false c e k = k e
 
 some_left : (gs : List Polygon) → T (not (is_empty gs)) → 0 < length gs
@@ -41,7 +42,7 @@ pub record Sides (gs a b : List Polygon) : Type 0 where
   pub second : 0 < length b
   pub sum : length a + length b ≡ length gs
 
-pub sides : {gs : List Polygon} (ss : List Separator) {s : Separator} → some s ≡ first_clean gs ss → Sides gs (polygons_on true s gs) (polygons_on false s gs)
+pub sides : {gs : List Polygon} (ss : List Separator) {s : Separator} → Some s ≡ first_clean gs ss → Sides gs (polygons_on true s gs) (polygons_on false s gs)
 sides {gs} ss {s} e =
     let t = clean_of gs ss e in
     let u = both_left (all_under s (polygons_on false s gs) && not (is_empty (polygons_on true s gs))) (not (is_empty (polygons_on false s gs))) t in
@@ -84,7 +85,7 @@ module _ (n : ℕ) (gs : List Polygon) where
       go zero = grown_only (λ _. stuck) gs h
       go (suc n) = grown_only (tree_of n) gs h
 
-  pub tree_stuck : 2 ≤ length gs → none ≡ first_clean gs (all_edges gs) → tree_of n gs ≡ stuck
+  pub tree_stuck : 2 ≤ length gs → None ≡ first_clean gs (all_edges gs) → tree_of n gs ≡ stuck
   unfolding tree_of
   tree_stuck h e = go n
     where
@@ -92,7 +93,7 @@ module _ (n : ℕ) (gs : List Polygon) where
       go zero = grown_split (λ _. stuck) gs h ∙ ap (split_by (λ _. stuck) gs) (sym e)
       go (suc n) = grown_split (tree_of n) gs h ∙ ap (split_by (tree_of n) gs) (sym e)
 
-  pub tree_split : {s : Separator} → 2 ≤ length gs → some s ≡ first_clean gs (all_edges gs) → tree_of (suc n) gs ≡ split s (tree_of n (polygons_on true s gs)) (tree_of n (polygons_on false s gs))
+  pub tree_split : {s : Separator} → 2 ≤ length gs → Some s ≡ first_clean gs (all_edges gs) → tree_of (suc n) gs ≡ split s (tree_of n (polygons_on true s gs)) (tree_of n (polygons_on false s gs))
   unfolding tree_of
   tree_split h e = grown_split (tree_of n) gs h ∙ ap (split_by (tree_of n) gs) (sym e)
 
@@ -110,8 +111,8 @@ Few again = (gs : List Polygon) (ss : List Separator) → 0 < length gs → suc 
 few_split : (again : List Polygon → Tree) → Few again → (gs : List Polygon) (ss : List Separator) (o : Option Separator) → o ≡ first_clean gs (all_edges gs) → 0 < length gs
     → suc (length (collected ss (split_by again gs o))) ≤ length ss + length gs
 unfolding collected
-few_split again k gs ss none e h = omega arith
-few_split again k gs ss (some s) e h =
+few_split again k gs ss None e h = omega arith
+few_split again k gs ss (Some s) e h =
     let d = sides (all_edges gs) e in
     omega (arith, d.sum, added_long ss s, k (polygons_on true s gs) (with_separator ss s) d.first, k (polygons_on false s gs) (collected (with_separator ss s) (again (polygons_on true s gs))) d.second)
 

@@ -1,6 +1,5 @@
 -- Which child a point belongs to: lines that separate the children's footprints, and the child for each side of them.
-use Rattle.std.specs.Prelude.{Bool, true, false, not, ◌&&◌, cond, List, [], ◌∷◌, ◌++◌, ℕ, zero, suc, ◌/◌, ◌%◌, ◌^◌, eqb, ltb, ℤ, pos, neg_ℤ, ◌+ℤ◌, ◌-ℤ◌, ◌*ℤ◌, length}
-use mathlib.Core.Option.{Option, none, some}
+use Rattle.std.specs.Prelude.{Bool, true, false, not, ◌&&◌, cond, List, [], ◌∷◌, ◌++◌, ℕ, zero, suc, ◌/◌, ◌%◌, ◌^◌, eqb, ltb, ℤ, pos, neg_ℤ, ◌+ℤ◌, ◌-ℤ◌, ◌*ℤ◌, length, Option, None, Some}
 use Rattle.std.specs.Int.Signed.{le_z}
 use Rattle.turtle.specs.declared.AB.{AB}
 use Rattle.whole.specs.Tests.{equal}
@@ -61,8 +60,8 @@ abbrev pub clean : List Polygon → Separator → Bool
 clean gs s = all_under s (polygons_on false s gs) && not (is_empty (polygons_on true s gs)) && not (is_empty (polygons_on false s gs))
 
 abbrev pub first_clean : List Polygon → List Separator → Option Separator
-first_clean gs [] = none
-first_clean gs (s ∷ ss) = let rest = first_clean gs ss in cond (clean gs s) (some s) rest
+first_clean gs [] = None
+first_clean gs (s ∷ ss) = let rest = first_clean gs ss in cond (clean gs s) (Some s) rest
 
 -- ---- the tree of splits: the first clean edge splits the set into two smaller sets, and each of those again
 pub data Tree : Type 0 where
@@ -71,8 +70,8 @@ pub data Tree : Type 0 where
   stuck : Tree
 
 abbrev pub split_by : (List Polygon → Tree) → List Polygon → Option Separator → Tree
-split_by again gs none = stuck
-split_by again gs (some s) = split s (again (polygons_on true s gs)) (again (polygons_on false s gs))
+split_by again gs None = stuck
+split_by again gs (Some s) = split s (again (polygons_on true s gs)) (again (polygons_on false s gs))
 
 abbrev pub tree_by : (List Polygon → Tree) → List Polygon → Tree
 tree_by again [] = stuck

@@ -1,109 +1,110 @@
 // The classifier of four children: each set of them is split by the first edge of theirs that
 // leaves each child on one side, and each of the two smaller sets again.
 ghost use Rattle.std.specs.Prelude.{◌≡◌, true, false, [], ◌+◌, ◌/◌, ◌%◌, ◌^◌, ◌<◌, ◌≤◌, eqb, length};
-ghost use Rattle.classifier.specs.Splits.{same_separator, separator_index, with_separator};
+ghost use Rattle.classifier.specs.Splits.{separator_index, with_separator};
 ghost use Rattle.classifier.specs.Shapes.{polygons_of, classifier_of};
-ghost use Rattle.classifier.specs.Inside.Sets.{members, gathered_by, gathered_lines, Kept, Through, Led};
+ghost use Rattle.classifier.specs.Inside.Sets.{members, three_of, Through, Led};
 
-use crate::groups::{FoundLine, Group, first_clean, first_digit, group_on, size};
+use crate::groups::Group;
 use crate::{Classifier, Placed, Separator};
+use std::array;
+use std::marker::Model;
 
 // The lines met so far, each once, those unused zero. `whole` where each set met was split.
-#[derive(Clone, Copy)]
+// Stays an array with a count: no heap, and the classifier that comes of it has the array.
+#[derive(Drop)]
 struct Gathered {
     lines: [Separator; 3],
     count: usize,
     whole: bool,
 }
 
-fn is_same(s: Separator, t: Separator) -> bool
-    ensures { result ≡ same_separator s t }
-{
-    if s.x != t.x {
-        return false;
-    }
-    if s.y != t.y {
-        return false;
-    }
-    s.c == t.c
+impl Model for Gathered {
+    ghost use Rattle.classifier.specs.Inside.Sets.{Lines};
+
+    ghost Value = { Lines };
+
+    ghost use Rattle.classifier.specs.Inside.Gathered.{gathered, Kept};
+
+    ghost view = { gathered };
+
+    ghost invariant = { Kept };
 }
 
-// Where a line stands among those gathered; their count where it is none of them.
-fn index_of(g: Gathered, s: Separator) -> usize
-    requires { Kept g }
-    ensures { result ≡ separator_index (gathered_lines g) s }
-{
-    let lines = g.lines;
-    let n = g.count;
-    let mut i = 0;
-    while i < n {
-        if is_same(lines[i], s) {
-            return i;
+impl Gathered {
+    fn new() -> Gathered
+        ensures { result ≡ record { lines = []; whole = true } }
+    {
+        Gathered {
+            lines: [Separator { x: 0, y: 0, c: 0 }; 3],
+            count: 0,
+            whole: true,
         }
-        i += 1;
     }
-    n
-}
 
-fn no_lines() -> Gathered
-    ensures { result ≡ gathered_by [] true }
-{
-    Gathered {
-        lines: [Separator { x: 0, y: 0, c: 0 }; 3],
-        count: 0,
-        whole: true,
+    // Where a line stands among those gathered; their count where it is none of them.
+    fn index_of(&self, s: Separator) -> usize
+        ensures place { result ≡ separator_index self.now.lines s }
+        ensures few { result ≤ 3 }
+    {
+        self.lines[..self.count]
+            .iter()
+            .position(|t| *t == s)
+            .unwrap_or(self.count)
     }
-}
 
-// One line more, if it is not among those gathered.
-fn with_separator(g: Gathered, s: Separator) -> Gathered
-    requires { Kept g × (g.count < 3) }
-    ensures { result ≡ gathered_by (with_separator (gathered_lines g) s) g.whole }
-{
-    let n = g.count;
-    if index_of(g, s) < n {
-        return g;
+    // One line more, if it is not among those gathered.
+    fn add(&mut self, s: Separator)
+        requires { length self.old.lines < 3 }
+        ensures { self.new ≡ record { lines = with_separator self.old.lines s; whole = self.old.whole } }
+    {
+        if self.index_of(s) == self.count {
+            self.lines[self.count] = s;
+            self.count += 1;
+        }
     }
-    let mut lines = g.lines;
-    lines[n] = s;
-    Gathered {
-        lines,
-        count: n + 1,
-        whole: g.whole,
-    }
-}
 
-// A set was met that no edge splits.
-fn broken(g: Gathered) -> Gathered
-    requires { Kept g }
-    ensures { result ≡ gathered_by (gathered_lines g) false }
-{
-    let lines = g.lines;
-    Gathered {
-        lines,
-        count: g.count,
-        whole: false,
+    // A set was met that no edge splits.
+    fn mark_stuck(&mut self)
+        ensures { self.new ≡ record { lines = self.old.lines; whole = false } }
+    {
+        self.whole = false;
+    }
+
+    // The lines, those unused zero.
+    fn lines(&self) -> [Separator; 3]
+        ensures { result ≡ three_of self.now.lines }
+    {
+        self.lines
+    }
+
+    fn is_whole(&self) -> bool
+        ensures { result ≡ self.now.whole }
+    {
+        self.whole
     }
 }
 
 // The lines that split a set and the smaller sets it is split into, after those gathered before.
-fn gather(children: [Placed; 4], group: Group, so_far: Gathered) -> Gathered
-    requires { Kept so_far × (so_far.count + length (members children group) ≤ 4) }
-    ensures { Through (members children group) so_far result }
+fn gather(group: &Group, found: &mut Gathered)
+    requires { length found.old.lines + length (members group.now) ≤ 4 }
+    ensures { Through (members group.now) found.old found.new }
 {
-    let n = size(group);
+    let n = group.size();
     if n == 0 {
-        return broken(so_far);
+        found.mark_stuck();
+        return;
     }
     if n == 1 {
-        return so_far;
+        return;
     }
-    let FoundLine::Line(s) = first_clean(children, group) else {
-        return broken(so_far);
+    let Some(s) = group.first_clean() else {
+        found.mark_stuck();
+        return;
     };
-    let more = with_separator(so_far, s);
-    let over = gather(children, group_on(true, s, children, group), more);
-    gather(children, group_on(false, s, children, group), over)
+    found.add(s);
+    gather(&group.side(true, s), found);
+    gather(&group.side(false, s), found);
 }
 
 // Bit i of a pattern.
@@ -115,48 +116,36 @@ fn bit(pattern: u8, i: usize) -> bool
 }
 
 // The child of a set that a pattern of sides leads to: bit i is 1 on the side over line i.
-fn choose(children: [Placed; 4], group: Group, found: Gathered, pattern: u8) -> u8
-    requires { Kept found }
-    ensures { Led (members children group) (gathered_lines found) pattern result }
+fn choose(group: &Group, found: &Gathered, pattern: u8) -> u8
+    ensures { Led (members group.now) found.now.lines pattern result }
 {
-    let n = size(group);
+    let n = group.size();
     if n == 0 {
         return 0;
     }
     if n == 1 {
-        return first_digit(group);
+        return group.first_digit();
     }
-    let FoundLine::Line(s) = first_clean(children, group) else {
+    let Some(s) = group.first_clean() else {
         return 0;
     };
-    let above = bit(pattern, index_of(found, s));
-    choose(
-        children,
-        group_on(above, s, children, group),
-        found,
-        pattern,
-    )
+    let above = bit(pattern, found.index_of(s));
+    choose(&group.side(above, s), found, pattern)
 }
 
 // The classifier of a state's four children.
 pub fn classifier_of(children: [Placed; 4]) -> Classifier
     ensures { result ≡ classifier_of (polygons_of children) }
 {
-    let all = Group { has: [true; 4] };
-    let found = gather(children, all, no_lines());
-    let separators = found.lines;
+    let all = Group {
+        children: &children,
+        has: [true; 4],
+    };
+    let mut found = Gathered::new();
+    gather(&all, &mut found);
     Classifier {
-        separators,
-        choices: [
-            choose(children, all, found, 0),
-            choose(children, all, found, 1),
-            choose(children, all, found, 2),
-            choose(children, all, found, 3),
-            choose(children, all, found, 4),
-            choose(children, all, found, 5),
-            choose(children, all, found, 6),
-            choose(children, all, found, 7),
-        ],
-        whole: found.whole,
+        separators: found.lines(),
+        choices: array::from_fn(|pattern| choose(&all, &found, pattern as u8)),
+        whole: found.is_whole(),
     }
 }

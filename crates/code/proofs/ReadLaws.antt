@@ -11,13 +11,12 @@ use mir.Val.{Fits}
 use lib.Pow.{field, pow_pos}
 use lib.Seq.{drop_at, length-take-le}
 use borrow.Author.Tests.{le-ltb, lt-ltb, eq-eqb, ne_eqb}
+use Rattle.std.specs.Prelude.{Ok, Err, Result}
 use Rattle.whole.proofs.Powers.{four_by_shift}
-use Rattle.triple.specs.declared.domain.DomainAnswer.{DomainAnswer}
 use Rattle.triple.specs.declared.refusal.Refusal.{Refusal}
 use Rattle.triple.specs.declared.refusal.Refusal.TheVariants as Is
-use Rattle.triple.specs.Refusals.{Told, told, refused, refuse, number_of}
+use Rattle.triple.specs.Refusals.{Told, told, refused, refuse, number_of, said}
 use Rattle.triple.specs.Domain.{in_domain, domain_of}
-use Rattle.triple.specs.Answers.{said_domain}
 use Rattle.triple.proofs.DomainLaws.{out_of_domain, in_domain_lem, shallow, oriented}
 use Rattle.code.specs.declared.Reading.{Reading}
 use Rattle.code.specs.Codes.{bits_of, value_of, all_bits, code_length, reading_of, loose_of}
@@ -78,7 +77,7 @@ pub after_first : (r : ℕ) {used : ℕ} → used ≡ code_length r → 1 ≤ us
 unfolding code_length
 after_first r e = omega arith
 
-pub few_bytes : (bytes : List ℕ) (r : ℕ) {used : ℕ} → used ≡ code_length r → (o : ℕ) {a : DomainAnswer} → said_domain a ≡ domain_of o r → a ≡ DomainAnswer.In → length (take (used - 1) (drop 1 bytes)) ≤ 8
+pub few_bytes : (bytes : List ℕ) (r : ℕ) {used : ℕ} → used ≡ code_length r → (o : ℕ) {a : Result Unit Refusal} → said a ≡ domain_of o r → a ≡ (Ok tt) → length (take (used - 1) (drop 1 bytes)) ≤ 8
 unfolding code_length
 few_bytes bytes r e o ea m = simp (length-take, length-drop) (omega (arith, shallow o r _ ea m))
 
@@ -101,12 +100,12 @@ module _ (bytes : List ℕ) where
   unfolding loose_of
   read_empty h = simp (eq-eqb _ _ h)
 
-  module _ (some : length bytes ≡ 0 → ⊥) (small : (i : ℕ) → Fits w8 (get_or bytes i 0)) {a : DomainAnswer} (ea : said_domain a ≡ domain_of (get_or bytes 0 0 / 32) (get_or bytes 0 0 % 32)) where
-    pub read_outside : {e : Refusal} → a ≡ DomainAnswer.Refused e → refused (number_of e) ≡ loose_of bytes
+  module _ (some : length bytes ≡ 0 → ⊥) (small : (i : ℕ) → Fits w8 (get_or bytes i 0)) {a : Result Unit Refusal} (ea : said a ≡ domain_of (get_or bytes 0 0 / 32) (get_or bytes 0 0 % 32)) where
+    pub read_outside : {e : Refusal} → a ≡ Err e → refused (number_of e) ≡ loose_of bytes
     unfolding from_first
     read_outside m = out_of_domain (get_or bytes 0 0 / 32) (get_or bytes 0 0 % 32) a ea _ m ∙ read_first bytes some (small 0).fits
 
-    module _ (m : a ≡ DomainAnswer.In) {used : ℕ} (length_is : used ≡ code_length (get_or bytes 0 0 % 32)) where
+    module _ (m : a ≡ (Ok tt)) {used : ℕ} (length_is : used ≡ code_length (get_or bytes 0 0 % 32)) where
       pub read_cut : length bytes < used → refused (number_of Is.Code) ≡ loose_of bytes
       unfolding from_first
       read_cut l = simp (lt-ltb _ _ (rw length_is at l)) (in_domain_lem (get_or bytes 0 0 / 32) (get_or bytes 0 0 % 32) a ea m _) ∙ read_first bytes some (small 0).fits

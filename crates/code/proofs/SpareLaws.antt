@@ -9,15 +9,14 @@ use lib.ListN.{length, take, drop, get_or, take-append-drop, length-append}
 use lib.Pow.{shl_exact, pow_pos, mod-mod-pow}
 use lib.Seq.{drop_at, drop-drop, length-take-le, split_at}
 use borrow.Author.Tests.{le-ltb, lt-ltb, ltb-false}
+use Rattle.std.specs.Prelude.{Ok, Err, Result}
 use Rattle.triple.specs.declared.refusal.Refusal.{Refusal}
 use Rattle.triple.specs.declared.refusal.Refusal.TheVariants as Is
-use Rattle.triple.specs.Refusals.{told, refused, number_of}
+use Rattle.triple.specs.Refusals.{told, refused, number_of, said}
 use Rattle.triple.specs.Domain.{greatest_resolution, greatest_orientation}
 use Rattle.triple.proofs.RefusalLaws.{passed}
 use Rattle.code.specs.declared.Reading.{Reading}
-use Rattle.code.specs.declared.ReadAnswer.{ReadAnswer}
 use Rattle.code.specs.Codes.{bits_of, value_of, all_bits, code_length, reading_of, spare_of, loose_of, read_of}
-use Rattle.code.specs.Answers.{said_read}
 use Rattle.code.proofs.BitLaws.{length_bits, bits_split, value_whole, value_front}
 use Rattle.code.proofs.ByteLaws.{number, all_bits_lem, all_bits_append}
 use Rattle.code.proofs.CodeLaws.{position_bytes, spare_bits, spare_is, bits_filled}
@@ -102,14 +101,14 @@ loose_sized bytes {x} p =
     rw (← is) record { shallow = ltb-false 30 r shallow.0; whole = ltb-false (length bytes) (code_length r) whole.0; count = refl }
 
 -- ---- the reader's answers, from what it has in hand
-module _ (bytes : List ℕ) {a : ReadAnswer} (ea : said_read a ≡ loose_of bytes) where
-  pub loose_refused : {e : Refusal} → a ≡ ReadAnswer.Refused e → refused (number_of e) ≡ read_of bytes
+module _ (bytes : List ℕ) {a : Result Reading Refusal} (ea : said a ≡ loose_of bytes) where
+  pub loose_refused : {e : Refusal} → a ≡ Err e → refused (number_of e) ≡ read_of bytes
   unfolding read_of
   loose_refused m = rw (← ea, m)
 
-  module _ (x : Reading) (m : a ≡ ReadAnswer.Read x) where
+  module _ (x : Reading) (m : a ≡ Ok x) where
     given : told x ≡ loose_of bytes
-    given = sym (ap said_read m) ∙ ea
+    given = sym (ap said m) ∙ ea
 
     pub loose_shallow : x.resolution ≤ 30
     loose_shallow = (loose_sized bytes (sym given)).shallow

@@ -1,18 +1,17 @@
 -- What a writer answers, and its buffer afterwards, at each of its tests, in the form of what the code has in hand there; and the loop that writes.
-use mathlib.Core.Path.{◌≡◌, refl, sym, ◌∙◌}
+use mathlib.Core.Path.{◌≡◌, sym, ◌∙◌}
 use mathlib.Core.Bool.{false}
 use mathlib.Core.List.{List, ◌++◌}
 use Prim.Native.Nat.{ℕ, ◌+◌, ◌^◌, ◌≤◌, ◌<◌}
 use native.Mathlib.Omega.{arith}
-use lib.ListN.{length, drop, get_or, set, length-set}
+use lib.ListN.{length, drop, get_or, set}
 use borrow.Author.Tests.{le-leb, lt-leb}
+use Rattle.std.specs.Prelude.{Ok, Err, Result}
 use Rattle.whole.proofs.Fill.{poured, poured_more, poured_all}
-use Rattle.triple.specs.declared.domain.DomainAnswer.{DomainAnswer}
 use Rattle.triple.specs.declared.refusal.Refusal.{Refusal}
 use Rattle.triple.specs.declared.refusal.Refusal.TheVariants as Is
-use Rattle.triple.specs.Refusals.{told, refused, number_of}
+use Rattle.triple.specs.Refusals.{told, refused, number_of, said}
 use Rattle.triple.specs.Domain.{domain_of, position_count}
-use Rattle.triple.specs.Answers.{said_domain}
 use Rattle.triple.proofs.DomainLaws.{out_of_domain, in_domain_lem, shallow, oriented, positions_are}
 use Rattle.triple.specs.Lent.{count_of, after_call}
 use Rattle.triple.proofs.LentLaws.{refused_count, refused_kept, short_count, short_kept, whole_count, whole_stored}
@@ -22,28 +21,19 @@ use Rattle.code.proofs.CodeLaws.{length_code}
 use Rattle.code.proofs.TurnLaws.{retired, current}
 
 -- ---- the loop that writes: the code's first k bytes stand in the place of the buffer's
-pub record Put (code buffer : List ℕ) (k : ℕ) (out : List ℕ) : Type 0 where
-  pub same_length : length out ≡ length buffer
-  pub poured_so : out ≡ poured code k buffer
-
-pub put_none : (code buffer : List ℕ) → Put code buffer 0 buffer
-put_none code buffer = record { same_length = refl; poured_so = refl }
-
-module _ (o r s : ℕ) {buffer out : List ℕ} {used k : ℕ} (length_is : used ≡ code_length r) (p : Put (code_bytes o r s) buffer k out) where
-  pub put_more : code_length r ≤ length buffer → k < used → {b : ℕ} → b ≡ get_or (code_bytes o r s) k 0 → Put (code_bytes o r s) buffer (k + 1) (set out k b)
-  put_more room h e =
-      let long = length_code o r s in
-      record { same_length = simp length-set p.same_length; poured_so = rw p.poured_so (poured_more (code_bytes o r s) buffer k 0 _ (omega arith) (omega arith) e) }
+module _ (o r s : ℕ) (buffer : List ℕ) (k : ℕ) {out : List ℕ} {used : ℕ} (length_is : used ≡ code_length r) (front : out ≡ poured (code_bytes o r s) k buffer) where
+  pub put_more : code_length r ≤ length buffer → k < used → {b : ℕ} → b ≡ get_or (code_bytes o r s) k 0 → set out k b ≡ poured (code_bytes o r s) (k + 1) buffer
+  put_more room h e = let long = length_code o r s in rw front (poured_more (code_bytes o r s) buffer k 0 _ (omega arith) (omega arith) e)
 
   pub put_all : k ≤ used → used ≤ k → out ≡ code_bytes o r s ++ drop (code_length r) buffer
-  put_all h l = poured_all (code_bytes o r s) buffer k (code_length r) (length_code o r s) (omega arith) (omega arith) p.poured_so
+  put_all h l = poured_all (code_bytes o r s) buffer k (code_length r) (length_code o r s) (omega arith) (omega arith) front
 
-pub ruleset putting = (put_none, put_more, put_all)
+pub ruleset putting = (put_more, put_all)
 
 -- ---- the tests
 module _ (o r s : ℕ) (buffer : List ℕ) where
-  module _ {a : DomainAnswer} (ea : said_domain a ≡ domain_of o r) where
-    module _ {e : Refusal} (m : a ≡ DomainAnswer.Refused e) where
+  module _ {a : Result Unit Refusal} (ea : said a ≡ domain_of o r) where
+    module _ {e : Refusal} (m : a ≡ Err e) where
       outside : refused (number_of e) ≡ code_of o r s
       unfolding code_of
       outside = out_of_domain o r a ea _ m
@@ -54,7 +44,7 @@ module _ (o r s : ℕ) (buffer : List ℕ) where
       pub outside_left : buffer ≡ after_call (code_of o r s) buffer
       outside_left = refused_kept buffer outside
 
-    module _ (m : a ≡ DomainAnswer.In) {f : ℕ} (f_is : f ≡ forward_of o) where
+    module _ (m : a ≡ (Ok tt)) {f : ℕ} (f_is : f ≡ forward_of o) where
       module _ (other : f ≡ o → ⊥) where
         old : refused (number_of Is.Retired) ≡ code_of o r s
         unfolding code_of
@@ -105,7 +95,7 @@ module _ (o r s : ℕ) (buffer : List ℕ) where
             pub whole_left : used ≤ length buffer → {out : List ℕ} → out ≡ code_bytes o r s ++ drop (code_length r) buffer → out ≡ after_call (code_of o r s) buffer
             whole_left room e = whole_stored buffer given long room (rw length_is e)
 
-    pub position_named : a ≡ DomainAnswer.In → {count : ℕ} → count ≡ position_count r → s < count → s < 4 ^ r
+    pub position_named : a ≡ (Ok tt) → {count : ℕ} → count ≡ position_count r → s < count → s < 4 ^ r
     position_named m count_is named = rw (positions_are r (shallow o r a ea m) count_is) at named
 
 pub ruleset writing = (shallow, oriented, position_named, outside_refused, outside_left, old_refused, old_left, past_refused, past_left, short_refused, short_left, whole_told, whole_left)

@@ -25,9 +25,9 @@
 ghost use Rattle.std.specs.Prelude.{◌≡◌, ◌++◌, ◌+◌, ◌-◌, ◌*◌, ◌/◌, ◌^◌, ◌<◌, ◌≤◌, length, get_or, drop};
 ghost use Rattle.triple.specs.Lent.{count_of, after_call};
 ghost use Rattle.code.specs.Codes.{value_of, all_bits, code_length, code_bytes, forward_of, reading_of, code_of, spare_of, loose_of, read_of};
-ghost use Rattle.code.specs.Answers.{said_write, said_read};
+ghost use Rattle.triple.specs.Refusals.{said};
 
-use triple::domain::{DomainAnswer, domain_of, position_count};
+use triple::domain::{domain_of, position_count};
 use triple::orientation::place_from;
 use triple::refusal::Refusal;
 
@@ -41,79 +41,54 @@ pub struct Reading {
     pub old: bool,
 }
 
-// The count of bytes written, or why none was.
-#[derive(Clone, Copy)]
-pub enum WriteAnswer {
-    Written(usize),
-    Refused(Refusal),
-}
-
-#[derive(Clone, Copy)]
-pub enum ReadAnswer {
-    Read(Reading),
-    Refused(Refusal),
-}
-
 // Writes a code at the front of a buffer. A refused call leaves the buffer as it was.
-pub fn write(orientation: u8, resolution: u8, s: u64, out: &mut [u8]) -> WriteAnswer
-    ensures { (said_write result ≡ count_of (code_of orientation resolution s) out.old) × (out.new ≡ after_call (code_of orientation resolution s) out.old) }
+pub fn write(orientation: u8, resolution: u8, s: u64, out: &mut [u8]) -> Result<usize, Refusal>
+    ensures { (said result ≡ count_of (code_of orientation resolution s) out.old) × (out.new ≡ after_call (code_of orientation resolution s) out.old) }
 {
-    let domain = domain_of(orientation, resolution);
-    if let DomainAnswer::Refused(e) = domain {
-        return WriteAnswer::Refused(e);
-    }
+    domain_of(orientation, resolution)?;
     if forward_of(orientation) != orientation {
-        return WriteAnswer::Refused(Refusal::Retired);
+        return Err(Refusal::Retired);
     }
     if s >= position_count(resolution) {
-        return WriteAnswer::Refused(Refusal::Position);
+        return Err(Refusal::Position);
     }
     let used = code_length(resolution);
     let room = out.len();
     if room < used {
-        return WriteAnswer::Refused(Refusal::Room);
+        return Err(Refusal::Room);
     }
     put(orientation, resolution, s, out);
-    WriteAnswer::Written(used)
+    Ok(used)
 }
 
 // Reads the code at the front of some bytes.
-pub fn read(bytes: &[u8]) -> ReadAnswer
-    ensures { said_read result ≡ read_of bytes.now }
+pub fn read(bytes: &[u8]) -> Result<Reading, Refusal>
+    ensures { said result ≡ read_of bytes.now }
 {
-    let loose = read_loose(bytes);
-    match loose {
-        ReadAnswer::Read(x) => {
-            if spare_value(bytes, x.resolution) > 0 {
-                return ReadAnswer::Refused(Refusal::Spare);
-            }
-            ReadAnswer::Read(x)
-        }
-        ReadAnswer::Refused(e) => ReadAnswer::Refused(e),
+    let x = read_loose(bytes)?;
+    if spare_value(bytes, x.resolution) > 0 {
+        return Err(Refusal::Spare);
     }
+    Ok(x)
 }
 
 // The same, whatever the spare bits are, for whoever mends codes. How long a code is depends on its first byte, so that byte's
 // own tests come before the one of the length.
-pub fn read_loose(bytes: &[u8]) -> ReadAnswer
-    ensures { said_read result ≡ loose_of bytes.now }
+pub fn read_loose(bytes: &[u8]) -> Result<Reading, Refusal>
+    ensures { said result ≡ loose_of bytes.now }
 {
     if bytes.len() == 0 {
-        return ReadAnswer::Refused(Refusal::Code);
+        return Err(Refusal::Code);
     }
     let first = bytes[0];
-    let resolution = first % 32;
-    let orientation = first / 32;
-    let header = domain_of(orientation, resolution);
-    if let DomainAnswer::Refused(e) = header {
-        return ReadAnswer::Refused(e);
-    }
-    let used = code_length(resolution);
+    let (o, r) = (first / 32, first % 32);
+    domain_of(o, r)?;
+    let used = code_length(r);
     if bytes.len() < used {
-        return ReadAnswer::Refused(Refusal::Code);
+        return Err(Refusal::Code);
     }
-    let s = joined(&bytes[1..used]) >> spare_bits(resolution);
-    ReadAnswer::Read(reading_of(orientation, resolution, s))
+    let s = joined(&bytes[1..used]) >> spare_bits(r);
+    Ok(reading_of(o, r, s))
 }
 
 // What a code says of a position in its own orientation.
@@ -172,11 +147,8 @@ fn put(orientation: u8, resolution: u8, s: u64, out: &mut [u8])
     requires { (orientation ≤ 5) × (resolution ≤ 30) × (s < 4 ^ resolution) × (code_length resolution ≤ length out.old) }
     ensures { out.new ≡ code_bytes orientation resolution s ++ drop (code_length resolution) out.old }
 {
-    let used = code_length(resolution);
-    let mut k = 0;
-    while k < used {
+    for k in 0..code_length(resolution) {
         out[k] = code_byte(orientation, resolution, s, k);
-        k += 1;
     }
 }
 
@@ -200,10 +172,8 @@ fn joined(bytes: &[u8]) -> u64
     ensures { result ≡ value_of (all_bits bytes.now) }
 {
     let mut v: u64 = 0;
-    let mut k = 0;
-    while k < bytes.len() {
-        v = with_byte(v, bytes[k]);
-        k += 1;
+    for b in bytes {
+        v = with_byte(v, *b);
     }
     v
 }

@@ -1,4 +1,3 @@
 pub mod Points
 pub mod ExactPoints
-pub mod Answers
 pub mod Inside

@@ -10,7 +10,7 @@ ghost use Rattle.std.specs.Float.Ieee.{add, sub, le, of_int};
 ghost use Rattle.curve.specs.Points.{near, floor_at, floor, one, clamped, cornered, settled, is_moved, point_by, point_cell, mark_of, point_of};
 ghost use Rattle.curve.specs.ExactPoints.{exact_point_of};
 ghost use Rattle.curve.specs.Inside.Parts.{parity_in};
-ghost use Rattle.curve.specs.Answers.{said_point};
+ghost use Rattle.triple.specs.Refusals.{said};
 
 use crate::exact::exact_parity;
 use triple::Triple;
@@ -35,39 +35,33 @@ impl PointCell {
     }
 }
 
-#[derive(Clone, Copy)]
-pub enum PointAnswer {
-    At(PointCell),
-    Refused(Refusal),
-}
-
 // The cell that holds the point (i, j). A unit square is two cells, parted where the
 // fractions of i and j sum to 1; that line is the upper cell's. A point out of bounds, as float
 // noise at an edge or a hand that drags it can have it, is brought to a cell that is there, and marked.
 // The fractions and their sum are rounded, each once: just left of an edge the fraction can become 1.
-pub fn round_to_triple(i: f64, j: f64, resolution: u8) -> PointAnswer
-    ensures { said_point result ≡ point_of resolution i j }
+pub fn round_to_triple(i: f64, j: f64, resolution: u8) -> Result<PointCell, Refusal>
+    ensures { said result ≡ point_of resolution i j }
 {
     round(i, j, resolution, false)
 }
 
 // The same by exact fractions: a point that is not moved lies in the cell's triangle.
-pub fn round_exactly(i: f64, j: f64, resolution: u8) -> PointAnswer
-    ensures { said_point result ≡ exact_point_of resolution i j }
+pub fn round_exactly(i: f64, j: f64, resolution: u8) -> Result<PointCell, Refusal>
+    ensures { said result ≡ exact_point_of resolution i j }
 {
     round(i, j, resolution, true)
 }
 
-fn round(i: f64, j: f64, resolution: u8, exact: bool) -> PointAnswer
-    ensures { said_point result ≡ point_by (parity_in exact) resolution i j }
+fn round(i: f64, j: f64, resolution: u8, exact: bool) -> Result<PointCell, Refusal>
+    ensures { said result ≡ point_by (parity_in exact) resolution i j }
 {
     if resolution > Triple::GREATEST_RESOLUTION {
-        return PointAnswer::Refused(Refusal::Resolution);
+        return Err(Refusal::Resolution);
     }
     if !are_near(i, j) {
-        return PointAnswer::Refused(Refusal::Point);
+        return Err(Refusal::Point);
     }
-    PointAnswer::At(rounded(i, j, last_row(resolution), exact))
+    Ok(rounded(i, j, last_row(resolution), exact))
 }
 
 fn are_near(i: f64, j: f64) -> bool

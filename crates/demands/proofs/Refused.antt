@@ -1,9 +1,9 @@
 -- EVERY CALL is answered or refused by one of its own numbers: those of its tests, as the definition has them; and what is behind the tests is
 -- answered. Of cells and positions that is the numbering, of the inverse its law.
+use Rattle.std.specs.Prelude.{Option, Some, None}
 use mathlib.Core.Path.{◌≡◌, refl}
 use mathlib.Core.Logic.{⊎_elim}
 use mathlib.Core.Bool.{Bool, true, false, not, cond, ◌||◌, ◌&&◌, true≢false}
-use mathlib.Core.Option.{Option, some, none}
 use mathlib.Core.List.{List, [], ◌∷◌}
 use Prim.Native.Nat.{ℕ, zero, suc, ◌+◌, ◌/◌, ◌%◌, ◌^◌, ◌≤◌}
 use native.Mathlib.Omega.{arith}
@@ -228,7 +228,7 @@ reading bytes =
     let o = value_of (take 3 (all_bits bytes)) in
     let r = value_of (take 5 (drop 3 (all_bits bytes))) in
     by_step
-    (by_test (eqb (length bytes) 0) Is.Code tt λ some.
+    (by_test (eqb (length bytes) 0) Is.Code tt λ Some.
     by_test (ltb 30 r) Is.Resolution tt λ k.
     by_test (ltb 5 o) Is.Orientation tt λ h.
     by_test (ltb (length bytes) (code_length r)) Is.Code tt λ whole. answer)
@@ -257,7 +257,7 @@ unfolds o r pairs slice =
 
 -- ---- areas
 -- two lists that have to be areas, whatever is said of them then
-both_areas : {A : Type 0} {numbers : List ℕ} (a b : List ℕ) {said : Told A} → T (is_among 1 numbers) → T (is_among 3 numbers) → T (is_among 25 numbers) → AnsweredOr numbers said → AnsweredOr numbers (tested a b said)
+both_areas : {A : Type 0} {numbers : List ℕ} (a b : List ℕ) {says : Told A} → T (is_among 1 numbers) → T (is_among 3 numbers) → T (is_among 25 numbers) → AnsweredOr numbers says → AnsweredOr numbers (tested a b says)
 unfolding tested number_of
 both_areas a b resolution position order next =
     by_test (not (shallow 30 (cells_in a) && shallow 30 (cells_in b))) Is.Resolution resolution λ s.
@@ -322,8 +322,8 @@ polygon_writing r t buffer =
 
 by_readable : {A : Type 0} (read : Option A) → AnsweredOr (1 ∷ 27 ∷ 5 ∷ []) (readable read)
 unfolding number_of
-by_readable (some v) = answer
-by_readable none = refusal tt
+by_readable (Some v) = answer
+by_readable None = refusal tt
 
 corner_read : (text : List ℕ) (at : ℕ) → AnsweredOr (1 ∷ 27 ∷ 5 ∷ []) (corner_at text at)
 unfolding corner_at
@@ -350,8 +350,8 @@ polygon_reading r text =
 -- ---- lines and queries
 by_number : {A : Type 0} (read : Option A) → AnsweredOr (21 ∷ []) (number read)
 unfolding number_of
-by_number (some v) = answer
-by_number none = refusal tt
+by_number (Some v) = answer
+by_number None = refusal tt
 
 by_head : (rest : ℕ → ℕ → List (List ℕ) → Told Query) (w : List (List ℕ)) → ((o r : ℕ) → AnsweredOr (21 ∷ []) (rest o r w)) → AnsweredOr (21 ∷ []) (headed rest w)
 unfolding headed

@@ -16,7 +16,7 @@ use mir.Syntax.{Width, w64}
 use mir.Val.{to_z, of_z, Fits, bits}
 use Rattle.whole.proofs.Powers.{four_by_shift}
 use Rattle.whole.proofs.Bools.{both_left, both_right, from_true}
-use Rattle.whole.proofs.View.{v_abs, v_add, v_mul, kept}
+use Rattle.whole.proofs.View.{v_abs, v_add, v_mul, kept, eq_by}
 use Rattle.triple.specs.declared.refusal.Refusal.TheVariants as Is
 use Rattle.triple.specs.Refusals.{Told, told, refused, number_of}
 use Rattle.turtle.specs.declared.AB.{AB}
@@ -91,7 +91,7 @@ read_near x h = kept w64 refl (v_abs x (2 ^ 42) h) tt
 small_near : (x : ℤ) → nat_abs x ≤ 4096 → nat_abs x ≤ 2 ^ 42
 small_near x h = omega arith
 
--- what `twice_plus` and `thrice_plus` ask: x is a place's coordinate, and z was read as the entry o
+-- what `times_plus` asks: x is a place's coordinate, and z was read as the entry o
 pub asks : (x o : ℤ) {z : ℤ} → (nat_abs x + 4096) * 2 ^ 0 ≤ 2 ^ 42 → nat_abs o ≤ 4096 → z ≡ o → (nat_abs (to_z w64 (of_z w64 x)) ≤ 2 ^ 42) × (nat_abs (to_z w64 (of_z w64 z)) ≤ 4096)
 asks x o n h e =
     let s = near_size (nat_abs x) n in
@@ -104,11 +104,12 @@ module _ (x o : ℤ) {z r : ℤ} (n : (nat_abs x + 4096) * 2 ^ 0 ≤ 2 ^ 42) (h 
       let s = near_size (nat_abs x) n in
       kept w64 (f ∙ rw (e, read_near x s, read_near o (small_near o h))) (v_add (v_mul 2 (v_abs x (2 ^ 42) s)) (v_abs o 4096 h)) tt
 
-  pub thrice_read : r ≡ to_z w64 (of_z w64 x) +ℤ to_z w64 (of_z w64 x) +ℤ to_z w64 (of_z w64 x) +ℤ to_z w64 (of_z w64 z) → to_z w64 (of_z w64 r) ≡ x +ℤ x +ℤ x +ℤ o
+  pub thrice_read : r ≡ pos 3 *ℤ to_z w64 (of_z w64 x) +ℤ to_z w64 (of_z w64 z) → to_z w64 (of_z w64 r) ≡ x +ℤ x +ℤ x +ℤ o
   thrice_read f =
       let s = near_size (nat_abs x) n in
       let v = v_abs x (2 ^ 42) s in
-      kept w64 (f ∙ rw (e, read_near x s, read_near o (small_near o h))) (v_add (v_add (v_add v v) v) (v_abs o 4096 h)) tt
+      let l = v_abs o 4096 h in
+      kept w64 (f ∙ rw (e, read_near x s, read_near o (small_near o h))) (v_add (v_mul 3 v) l) tt ∙ eq_by (v_add (v_mul 3 v) l) (v_add (v_add (v_add v v) v) l) tt (omega arith)
 
 -- an entry that is not negative, as the code casts it
 abbrev Cast : Width → ℤ → Type 0

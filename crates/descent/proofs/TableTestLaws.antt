@@ -1,88 +1,53 @@
--- The tests of a lent table in the form of what the code has in hand: an entry by its comparisons, a range of entries by how far it is read,
--- a state by its own part of the table.
-use mathlib.Core.Path.{◌≡◌, refl, sym, ap, ◌∙◌, subst}
-use mathlib.Core.Bool.{Bool, true, false, not, ◌&&◌}
-use mathlib.Core.List.{List}
-use Prim.Native.Nat.{ℕ, ◌+◌, ◌-◌, ◌*◌, ◌%◌, ◌/◌, ◌^◌, ◌<◌, ◌≤◌}
+-- The tests of a lent table in the form of what the code has in hand: a range of entries by the test of each, a state by its own part of the table.
+use mathlib.Core.Path.{◌≡◌, refl, sym, ap, ◌∙◌}
+use mathlib.Core.Bool.{Bool, true, false, ◌&&◌}
+use mathlib.Core.List.{List, [], ◌∷◌, map}
+use Prim.Native.Nat.{ℕ, zero, suc, ◌+◌, ◌-◌, ◌*◌, ◌≤◌}
 use native.Mathlib.Nat.{le_refl}
+use native.Mathlib.Numerals.{add-one}
 use native.Mathlib.Omega.{arith}
-use borrow.Author.Tests.{le-leb, lt-leb, lt-ltb, le-ltb, eq-eqb, ne_eqb, not-true, not-false}
-use lib.Dec.{T}
-use lib.IntN.{ℤ, pos, negsuc, nat_abs}
-use lib.Signed.{lt_z, le_z, mag}
+use lib.IntN.{ℤ, pos}
 use lib.ListN.{length, get_or, take, drop, length-drop}
 use lib.Seq.{take_all, get_or-drop}
-use mir.Syntax.{w32}
-use mir.Val.{to_z, of_z}
-use mir.ValLaws.{to_z-of_z}
-use Rattle.whole.proofs.Bools.{from_true, is_true}
-use Rattle.whole.proofs.Parts.{abs_parts, up_dn, up_pos, dn_pos, up_negsuc, dn_negsuc}
-use Rattle.whole.proofs.View.{v_unsigned, v_pos, eq_by, lt_true_is, lt_false_is, le_true_is, le_false_is}
-use Rattle.tables.specs.Descent.{entry, child_at, flavor_at, readable_child, readable_size, readable_flavor, all_below, readable_state, good_table}
-use Rattle.tables.proofs.ReadableLaws.{below_next, below_fails}
+use Rattle.std.specs.List.{list_all, range_with_len}
+use Rattle.std.proofs.lemmas.List.Folds.{list_all_more, list_all-map, list_all-append}
+use Rattle.std.proofs.lemmas.List.FromFn.{map-range_with_len_more}
+use Rattle.tables.specs.Descent.{entry, readable_child, readable_size, readable_flavor, all_below, readable_state}
+use Rattle.tables.proofs.ReadableLaws.{below_same}
 
--- ---- an entry z, and y as it is read back from its bits
-module _ (z : ℤ) {y : ℤ} (e : y ≡ z) where
-  low : (b : Bool) → lt_z y (pos 0) ≡ true → false ≡ le_z (pos 0) z && b
-  low b h = go z (rw e at h)
-    where
-      go : (z : ℤ) → lt_z z (pos 0) ≡ true → false ≡ le_z (pos 0) z && b
-      go (pos a) h = absurd (omega (arith, lt_true_is (pos a) (pos 0) h, up_pos a, dn_pos a, up_pos 0, dn_pos 0))
-      go (negsuc a) h = refl
+-- ---- a test of each is the test at each number
+module _ {X : Type 0} (test : X → Bool) where
+  all_places : (xs : List X) (d : X) (n : ℕ) → n ≤ length xs → list_all test (take n xs) ≡ all_below (λ i. test (get_or xs i d)) n
+  all_places xs d zero h = refl
+  all_places xs d (suc n) h = rw (← add-one, list_all_more test xs n d (omega arith), all_places xs d n (omega arith)) refl
 
-  high : (b : Bool) → lt_z y (pos 0) ≡ false → b ≡ le_z (pos 0) z && b
-  high b h = go z (rw e at h)
-    where
-      go : (z : ℤ) → lt_z z (pos 0) ≡ false → b ≡ le_z (pos 0) z && b
-      go (pos a) h = rw (le-leb 0 a (omega arith))
-      go (negsuc a) h = absurd (omega (arith, lt_false_is (negsuc a) (pos 0) h, up_negsuc a, dn_negsuc a, up_pos 0, dn_pos 0))
+and_true : (b : Bool) → (b && true) ≡ b
+and_true true = refl
+and_true false = refl
 
-  pub child_low : (n : ℕ) → lt_z y (pos 0) ≡ true → false ≡ readable_child n z
-  child_low n h = low (lt_z z (pos n)) h
-
-  pub child_high : (n : ℕ) → n ≤ 32 → lt_z y (pos 0) ≡ false → lt_z y (to_z w32 n) ≡ readable_child n z
-  child_high n few h =
-      let k : to_z w32 n ≡ pos n = eq_by (v_unsigned w32 n 32 few) (v_pos n) tt (omega arith) in
-      rw (k, e) (high (lt_z z (pos n)) h)
-
-  pub flavor_low : lt_z y (pos 0) ≡ true → false ≡ readable_flavor z
-  flavor_low h = low (le_z z (pos 3)) h
-
-  pub flavor_high : lt_z y (pos 0) ≡ false → le_z y (pos 3) ≡ readable_flavor z
-  flavor_high h = rw e (high (le_z z (pos 3)) h)
-
-  pub size_low : lt_z y (negsuc 4095) ≡ true → false ≡ readable_size z
-  size_low h = sym (lt-leb (nat_abs z) 4096 (omega (arith, lt_true_is z (negsuc 4095) (rw e at h), abs_parts z, up_negsuc 4095, dn_negsuc 4095, up_dn z)))
-
-  pub size_high : lt_z y (negsuc 4095) ≡ false → le_z y (pos 4096) ≡ readable_size z
-  size_high h = rw e (go (le_z z (pos 4096)) refl)
-    where
-      least : lt_z z (negsuc 4095) ≡ false
-      least = rw e at h
-
-      go : (b : Bool) → le_z z (pos 4096) ≡ b → b ≡ readable_size z
-      go true k = sym (le-leb (nat_abs z) 4096 (omega (arith, lt_false_is z (negsuc 4095) least, le_true_is z (pos 4096) k, abs_parts z, up_negsuc 4095, dn_negsuc 4095, up_pos 4096, dn_pos 4096, up_dn z)))
-      go false k = sym (lt-leb (nat_abs z) 4096 (omega (arith, le_false_is z (pos 4096) k, abs_parts z, up_pos 4096, dn_pos 4096, up_dn z)))
-
--- ---- p at every number below n, by the flag b of its test at i
-module _ (p : ℕ → Bool) (n i : ℕ) where
-  pub range_fails : {b : Bool} → i < n → b ≡ p i → not b ≡ true → false ≡ all_below p n
-  range_fails {b} h e t = below_fails p n i h (sym e ∙ not-true b t)
-
-  pub range_next : {b : Bool} → T (all_below p i) → b ≡ p i → not b ≡ false → T (all_below p (i + 1))
-  range_next {b} t e f = below_next p i t (from_true (sym e ∙ not-false b f))
-
-  pub range_ends : i ≤ n → n ≤ i → T (all_below p i) → true ≡ all_below p n
-  range_ends h k t = let e : i ≡ n = omega arith in is_true (all_below p n) (subst (λ m. T (all_below p m)) e t)
+pub all_numbers : (test : ℕ → Bool) (n : ℕ) → list_all test (range_with_len 0 n) ≡ all_below test n
+all_numbers test zero = refl
+all_numbers test (suc n) =
+    let front = list_all-map (λ b. b) test (range_with_len 0 n) ∙ all_numbers test n in
+    sym (list_all-map (λ b. b) test (range_with_len 0 (suc n)))
+    ∙ ap (λ k. list_all (λ b. b) (map test (range_with_len 0 k))) (sym (add-one n))
+    ∙ ap (list_all (λ b. b)) (map-range_with_len_more test 0 n n (omega arith))
+    ∙ list_all-append (λ b. b) (map test (range_with_len 0 n)) (test n ∷ [])
+    ∙ rw (front, and_true) refl
 
 -- ---- a state's own part: its entries are those of state 0 there
 pub first_entry : (t : List ℤ) (j : ℕ) → entry t 0 j ≡ get_or t j (pos 0)
 unfolding entry
 first_entry t j = let e : 41 * 0 + j ≡ j = omega arith in rw e
 
--- the entry's test, by the flag of what is read
-pub entry_flag : (test : ℤ → Bool) (t : List ℤ) (j : ℕ) {b : Bool} → mag (get_or t j (pos 0)) < 2 ^ 31 → b ≡ test (to_z w32 (of_z w32 (get_or t j (pos 0)))) → b ≡ test (entry t 0 j)
-entry_flag test t j f h = h ∙ ap test (to_z-of_z w32 _ (record { sfits = f }) ∙ sym (first_entry t j))
+-- the first n entries, and n from s on, each by the test
+pub first_pass : (test : ℤ → Bool) (t : List ℤ) (n : ℕ) → n ≤ length t → list_all test (take n t) ≡ all_below (λ i. test (entry t 0 i)) n
+first_pass test t n h = all_places test t (pos 0) n h ∙ below_same _ _ n (λ i l. ap test (sym (first_entry t i)))
+
+pub entries_pass : (test : ℤ → Bool) (t : List ℤ) (s n : ℕ) → s + n ≤ length t → list_all test (take n (drop s t)) ≡ all_below (λ i. test (entry t 0 (s + i))) n
+entries_pass test t s n h =
+    all_places test (drop s t) (pos 0) n (rw length-drop (omega arith))
+    ∙ below_same _ _ n (λ i l. ap test (get_or-drop s t i (pos 0) ∙ sym (first_entry t (s + i))))
 
 part_entry : (t : List ℤ) (k j : ℕ) → entry (drop (41 * k) t) 0 j ≡ entry t k j
 part_entry t k j = first_entry (drop (41 * k) t) j ∙ (unfold entry in get_or-drop (41 * k) t j (pos 0))
@@ -102,47 +67,22 @@ module _ (t : List ℤ) (states k : ℕ) where
   pub part_length : 41 * k + 41 ≤ length t → 24 ≤ length part_of
   part_length h = rw (whole_part t (41 * k), length-drop) (omega arith)
 
-  pub part_readable : readable_state part_of states 0 ≡ readable_state t states k
-  part_readable = ap (λ (u : List ℤ). readable_state u states 0) (whole_part t (41 * k)) ∙ state_part t states k
+  pub part_readable : {b : Bool} → b ≡ readable_state part_of states 0 → b ≡ readable_state t states k
+  part_readable e = e ∙ ap (λ (u : List ℤ). readable_state u states 0) (whole_part t (41 * k)) ∙ state_part t states k
 
 -- ---- a state, by the flags of its three ranges
-module _ (t : List ℤ) (states : ℕ) {a : Bool} (children : a ≡ all_below (λ d. readable_child states (child_at t 0 d)) 4) where
-  pub state_children : not a ≡ true → false ≡ readable_state t states 0
+module _ (t : List ℤ) (states : ℕ) (held : 24 ≤ length t) {a : Bool} (children : a ≡ list_all (readable_child states) (take 4 t)) where
+  pub state_children : a ≡ false → false ≡ readable_state t states 0
   unfolding readable_state
-  state_children h = rw (sym children ∙ not-true a h)
+  state_children h = rw (sym (children ∙ first_pass (readable_child states) t 4 (omega arith)) ∙ h)
 
-  module _ (good : not a ≡ false) {b : Bool} (sizes : b ≡ all_below (λ j. readable_size (entry t 0 (4 + j))) 16) where
-    pub state_sizes : not b ≡ true → false ≡ readable_state t states 0
+  module _ (good : a ≡ true) {b : Bool} (sizes : b ≡ list_all readable_size (take 16 (drop 4 t))) where
+    pub state_sizes : b ≡ false → false ≡ readable_state t states 0
     unfolding readable_state
-    state_sizes h = rw (sym children ∙ not-false a good, sym sizes ∙ not-true b h)
+    state_sizes h = rw (sym (children ∙ first_pass (readable_child states) t 4 (omega arith)) ∙ good, sym (sizes ∙ entries_pass readable_size t 4 16 (omega arith)) ∙ h)
 
-    pub state_flavors : not b ≡ false → {c : Bool} → c ≡ all_below (λ d. readable_flavor (flavor_at t 0 d)) 4 → c ≡ readable_state t states 0
+    pub state_flavors : b ≡ true → {c : Bool} → c ≡ list_all readable_flavor (take 4 (drop 20 t)) → c ≡ readable_state t states 0
     unfolding readable_state
-    state_flavors h e = rw (sym children ∙ not-false a good, sym sizes ∙ not-false b h) e
-
--- ---- a table, test by test
-module _ (t : List ℤ) (states token : ℕ) where
-  pub table_few : states < 4 → false ≡ good_table t states token
-  unfolding good_table
-  table_few h = rw (lt-leb 4 states h)
-
-  module _ (some : 4 ≤ states) where
-    pub table_many : 32 < states → false ≡ good_table t states token
-    unfolding good_table
-    table_many h = rw (le-leb 4 states some, lt-leb states 32 h)
-
-    module _ (few : states ≤ 32) where
-      pub table_odd : (states % 4 ≡ 0 → ⊥) → false ≡ good_table t states token
-      unfolding good_table
-      table_odd h = rw (le-leb 4 states some, le-leb states 32 few, ne_eqb (states % 4) 0 h)
-
-      module _ (fours : states % 4 ≡ 0) where
-        pub table_token : states / 2 ≤ token → false ≡ good_table t states token
-        unfolding good_table
-        table_token h = rw (le-leb 4 states some, le-leb states 32 few, eq-eqb (states % 4) 0 fours, le-ltb token (states / 2) h)
-
-        pub table_states : token < states / 2 → {b : Bool} → b ≡ all_below (readable_state t states) states → b ≡ good_table t states token
-        unfolding good_table
-        table_states h e = rw (le-leb 4 states some, le-leb states 32 few, eq-eqb (states % 4) 0 fours, lt-ltb token (states / 2) h) e
-
-pub ruleset by_table = (table_few, table_many, table_odd, table_token, table_states)
+    state_flavors h e =
+        rw (sym (children ∙ first_pass (readable_child states) t 4 (omega arith)) ∙ good, sym (sizes ∙ entries_pass readable_size t 4 16 (omega arith)) ∙ h)
+        (e ∙ entries_pass readable_flavor t 20 4 (omega arith))

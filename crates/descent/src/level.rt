@@ -1,5 +1,5 @@
 // The way down a readable table: a place in units of its own level, which doubles at each step.
-ghost use Rattle.std.specs.Prelude.{◌≡◌, ◌+◌, ◌*◌, ◌<◌, ◌≤◌, ◌^◌, ◌/◌, ◌%◌, nat_abs, pos, ◌+ℤ◌, ◌*ℤ◌, length};
+ghost use Rattle.std.specs.Prelude.{◌≡◌, ◌+◌, ◌*◌, ◌<◌, ◌≤◌, ◌^◌, ◌/◌, ◌%◌, nat_abs, ◌+ℤ◌, ◌*ℤ◌, length};
 ghost use Rattle.turtle.specs.Plane.{origin};
 ghost use Rattle.tables.specs.Descent.{entry, follow};
 ghost use Rattle.descent.specs.Answers.{said_leaf};
@@ -9,6 +9,7 @@ use crate::TableCell;
 use turtle::AB;
 
 // A state, and where its frame starts, in units of its level.
+// Stays beside the table, what is known of both in the contracts (point 5): a struct of the two holds the table by reference, a loop takes such a struct apart, and its invariant says all of it again (tried); the room shrinks at each step.
 #[derive(Clone, Copy)]
 pub(crate) struct LevelState {
     pub a: i64,
@@ -27,23 +28,16 @@ fn entry_at(table: &[i32], state: usize, j: usize) -> i64
     requires { (state < 32) × (41 * state + j < length table.now) }
     ensures { result ≡ entry table.now state j }
 {
-    table[41 * state + j] as i64
+    i64::from(table[41 * state + j])
 }
 
-// One level down, a place doubles.
-fn twice_plus(place: i64, offset: i64) -> i64
-    requires { (nat_abs place ≤ 2 ^ 42) × (nat_abs offset ≤ 4096) }
-    ensures { result ≡ pos 2 *ℤ place +ℤ offset }
+// So many times a place, and an entry: a place doubles one level down, and counts three times in a corner sum, which adds
+// three corners.
+fn times_plus(n: i64, place: i64, entry: i64) -> i64
+    requires { (nat_abs n ≤ 3) × ((nat_abs place ≤ 2 ^ 42) × (nat_abs entry ≤ 4096)) }
+    ensures { result ≡ n *ℤ place +ℤ entry }
 {
-    2 * place + offset
-}
-
-// A corner sum adds three corners, so a place counts three times.
-fn thrice_plus(place: i64, leaf: i64) -> i64
-    requires { (nat_abs place ≤ 2 ^ 42) × (nat_abs leaf ≤ 4096) }
-    ensures { result ≡ place +ℤ place +ℤ place +ℤ leaf }
-{
-    3 * place + leaf
+    n * place + entry
 }
 
 impl LevelState {
@@ -55,8 +49,8 @@ impl LevelState {
         let b = entry_at(table, self.state, 5 + 2 * digit);
         let child = entry_at(table, self.state, digit);
         LevelState {
-            a: twice_plus(self.a, a),
-            b: twice_plus(self.b, b),
+            a: times_plus(2, self.a, a),
+            b: times_plus(2, self.b, b),
             state: child as usize,
         }
     }
@@ -69,7 +63,7 @@ impl LevelState {
         let b = entry_at(table, self.state, 13 + 2 * digit);
         let flavor = entry_at(table, self.state, 20 + digit);
         TableCell {
-            sum: AB::new(thrice_plus(self.a, a), thrice_plus(self.b, b)),
+            sum: AB::new(times_plus(3, self.a, a), times_plus(3, self.b, b)),
             flavor: flavor as u8,
         }
     }
@@ -81,10 +75,8 @@ pub(crate) fn reach(table: &[i32], state: usize, levels: u64, s: u64) -> LevelSt
     ensures { (Known table.now result.state) × ((RoomBelow 0 result) × (follow table.now 0 (level_start result) result.state s ≡ follow table.now levels origin state s)) }
 {
     let mut p = LevelState { a: 0, b: 0, state };
-    let mut k = levels;
-    while k > 0 {
-        p = p.down(table, digit_of(s, k));
-        k -= 1;
+    for k in (0..levels).rev() {
+        p = p.down(table, digit_of(s, k + 1));
     }
     p
 }

@@ -24,12 +24,6 @@ pub struct TableCell {
     pub flavor: u8,
 }
 
-#[derive(Clone, Copy)]
-pub enum DescentAnswer {
-    At(TableCell),
-    Refused(Refusal),
-}
-
 // The cell at place s of what a part of a table gives, from entry `start` on: any table, any start, any
 // state count, any token. All that stands outside the part is never looked at.
 pub fn descend_table(
@@ -39,33 +33,39 @@ pub fn descend_table(
     passes: u8,
     token: usize,
     s: u64,
-) -> DescentAnswer
+) -> Result<TableCell, Refusal>
     ensures { said_descent result ≡ descent_in table.now start states passes token s }
 {
     if is_past(table.len(), start, states) {
-        return DescentAnswer::Refused(Refusal::Part);
+        return Err(Refusal::Part);
     }
     let end = start + 41 * states;
     descend_part(&table[start..end], states, passes, token, s)
 }
 
 // The same of the part alone, which holds its states.
-fn descend_part(part: &[i32], states: usize, passes: u8, token: usize, s: u64) -> DescentAnswer
+fn descend_part(
+    part: &[i32],
+    states: usize,
+    passes: u8,
+    token: usize,
+    s: u64,
+) -> Result<TableCell, Refusal>
     requires { 41 * states ≤ length part.now }
     ensures { said_descent result ≡ descent_of part.now states passes token s }
 {
     if passes == 0 {
-        return DescentAnswer::Refused(Refusal::Resolution);
+        return Err(Refusal::Resolution);
     }
     if passes > Triple::GREATEST_RESOLUTION {
-        return DescentAnswer::Refused(Refusal::Resolution);
+        return Err(Refusal::Resolution);
     }
     if !is_good_table(part, states, token) {
-        return DescentAnswer::Refused(Refusal::Table);
+        return Err(Refusal::Table);
     }
     if s >> (2 * passes) > 0 {
-        return DescentAnswer::Refused(Refusal::Position);
+        return Err(Refusal::Position);
     }
     let p = reach(part, 2 * token, (passes - 1) as u64, s);
-    DescentAnswer::At(p.leaf(part, (s % 4) as usize))
+    Ok(p.leaf(part, (s % 4) as usize))
 }

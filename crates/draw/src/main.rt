@@ -3,32 +3,35 @@
 // `svg`'s; this file has the arguments. Arguments of any other kind are said on standard error, with no picture.
 #![tactic(auto)]
 
-use lines::{argument, is_given};
-use sketch::DrawAnswer;
+use lines::{argument, fail, is_given, print};
 use std::env::Env;
-use svg::print;
-use text::number::{ByteWord, byte};
+use std::io;
+use text::number::byte;
 
 mod svg;
 
 // An argument that is a number below 256; 255 where it is none, which is refused as it would be.
 fn number_at<E: Env>(rt: &E, i: usize) -> u8 {
     let mut word = [0u8; 8];
-    let n = argument(rt, i, &mut word);
-    match byte(&word[..n]) {
-        ByteWord::Byte(b) => b,
-        ByteWord::Unread => 255,
-    }
+    byte(argument(rt, i, &mut word)).unwrap_or(255)
 }
 
 fn say_usage<E: Eprint>(rt: &E) {
     let _ = eprintln!(rt; "two arguments, an orientation 0 to 5 and passes 1 to 6");
 }
 
-// The first n entries are the cells.
-fn print_front<P: Print + Eprint>(rt: &P, orientation: u8, passes: u8, cells: &[i32], n: usize) {
-    if n <= cells.len() {
-        print(rt, orientation, passes, &cells[..n]);
+// The picture whole, or none where there is no memory for it.
+fn print_picture<P: Print + Eprint + AllocGlobal>(
+    rt: &P,
+    orientation: u8,
+    passes: u8,
+    cells: &[i32],
+) {
+    match svg::picture(rt.alloc(), orientation, passes, cells) {
+        Ok(text) => {
+            print(rt, text.as_bytes());
+        }
+        Err(e) => fail(rt, "the picture", io::Error::from(e)),
     }
 }
 
@@ -40,9 +43,11 @@ fn main(rt: HostRuntime) {
     let orientation = number_at(&rt, 1);
     let passes = number_at(&rt, 2);
     let mut cells = [0i32; 16384];
-    let answer = sketch::draw(orientation, passes, &mut cells);
-    match answer {
-        DrawAnswer::Written(n) => print_front(&rt, orientation, passes, &cells, n),
-        DrawAnswer::Refused(_) => say_usage(&rt),
+    match sketch::draw(orientation, passes, &mut cells) {
+        Ok(n) => {
+            let n = n.min(cells.len());
+            print_picture(&rt, orientation, passes, &cells[..n]);
+        }
+        Err(_) => say_usage(&rt),
     }
 }

@@ -1,11 +1,10 @@
 -- Blocks of an ascending list: the positions of a cell, which stand from an entry on.
-use mathlib.Core.Bool.{Bool, true, false, not, true≢false}
+use mathlib.Core.Bool.{Bool, true, false, true≢false}
 use mathlib.Core.Logic.{◌⊎◌, inl, inr}
 use mathlib.Core.Path.{◌≡◌, refl, sym, ap, ◌∙◌}
 use mathlib.Core.List.{List}
 use Prim.Native.Nat.{ℕ, zero, suc, ◌+◌, ◌-◌, ◌*◌, ◌/◌, ◌%◌, ◌^◌, ◌<◌, ◌≤◌}
 use native.Mathlib.Nat as N
-use native.Mathlib.Numerals.{add-one}
 use native.Mathlib.Omega.{arith}
 use native.Mathlib.Decide.{dec_lt}
 use lib.Dec.{leb, eqb}
@@ -13,7 +12,7 @@ use lib.Bits.{bit_and, and_mask}
 use lib.ListN.{length, get_or}
 use mir.Syntax.{w64}
 use mir.Val.{Fits}
-use borrow.Author.Tests.{eq-eqb, ne_eqb, le-leb, lt-leb, eqb-true, leb-true, not-true, not-false}
+use borrow.Author.Tests.{eq-eqb, ne_eqb, le-leb, lt-leb, eqb-true, leb-true}
 use Rattle.whole.proofs.Powers.{four_by_shift}
 use Rattle.whole.proofs.Digits.{four_power, four_times_power, digit_and_rest}
 use Rattle.triple.specs.Domain.{position_count}
@@ -142,16 +141,4 @@ module _ (xs : List ℕ) (i : ℕ) where
   pub level_none : i < length xs → block_at xs i 0 ≡ true
   level_none h = block_is 0 (N.mod-one (get_or xs i 0)) (omega arith) (rw (N.add-zero, N.add-zero))
 
-  module _ {r k : ℕ} (block : block_at xs i k ≡ true) where
-    pub level_stops : {b : Bool} → k ≤ r → b ≡ block_at xs i (k + 1) → not b ≡ true → Level r xs i k
-    level_stops {b} h e f = record { within = h; block = block; top = λ l. rw (← add-one k) (sym e ∙ not-true b f) }
-
-    pub level_ends : k ≤ r → r ≤ k → Level r xs i k
-    level_ends h l = record { within = h; block = block; top = λ j. let z : ⊥ = omega arith in absurd z }
-
-  pub level_goes : (k : ℕ) {b : Bool} → b ≡ block_at xs i (k + 1) → not b ≡ false → block_at xs i (k + 1) ≡ true
-  level_goes k {b} e f = sym e ∙ not-false b f
-
 pub ruleset blocks = (some_positions, not_first, too_few, last_tells)
-
-pub ruleset levels = (level_none, level_stops, level_ends, level_goes)

@@ -7,12 +7,11 @@ use native.Mathlib.Omega.{arith}
 use lib.Dec.{leb}
 use lib.ListN.{length, drop}
 use borrow.Author.Tests.{leb-true, leb-false, not-true, not-false}
-use Rattle.triple.specs.declared.domain.DomainAnswer.{DomainAnswer}
+use Rattle.std.specs.Prelude.{Ok, Err, Result}
 use Rattle.triple.specs.declared.refusal.Refusal.{Refusal}
 use Rattle.triple.specs.declared.refusal.Refusal.TheVariants as Is
-use Rattle.triple.specs.Refusals.{Told, told, refused, number_of}
+use Rattle.triple.specs.Refusals.{Told, told, refused, number_of, said}
 use Rattle.triple.specs.Domain.{domain_of, position_count}
-use Rattle.triple.specs.Answers.{said_domain}
 use Rattle.triple.specs.Lent.{valued, count_of, after_call, Counted}
 use Rattle.triple.proofs.DomainLaws.{out_of_domain, in_domain_lem, shallow, positions_are}
 use Rattle.triple.proofs.LentLaws.{count_short, count_whole, counted_kept}
@@ -62,8 +61,8 @@ module _ (r : ℕ) (xs slice : List ℕ) {room : Bool} (room_is : room ≡ leb (
 pub ruleset folding_room = (short_count, short_left, roomy, whole_count, whole_left)
 
 -- ---- the tests
-module _ (o r : ℕ) (xs slice : List ℕ) {a : DomainAnswer} (ea : said_domain a ≡ domain_of o r) where
-  module _ {e : Refusal} (m : a ≡ DomainAnswer.Refused e) where
+module _ (o r : ℕ) (xs slice : List ℕ) {a : Result Unit Refusal} (ea : said a ≡ domain_of o r) where
+  module _ {e : Refusal} (m : a ≡ Err e) where
     outside : refused (number_of e) ≡ fold_call o r xs
     unfolding fold_call
     outside = out_of_domain o r a ea _ m
@@ -74,7 +73,7 @@ module _ (o r : ℕ) (xs slice : List ℕ) {a : DomainAnswer} (ea : said_domain 
     pub outside_left : slice ≡ after_call (fold_call o r xs) slice
     outside_left = refused_left slice outside
 
-  module _ (m : a ≡ DomainAnswer.In) {size : ℕ} (size_is : size ≡ position_count r) {below rising : Bool} (below_is : below ≡ all_below size xs)
+  module _ (m : a ≡ (Ok tt)) {size : ℕ} (size_is : size ≡ position_count r) {below rising : Bool} (below_is : below ≡ all_below size xs)
       (rising_is : rising ≡ ascending xs) where
     sized : size ≡ 4 ^ r
     sized = positions_are r (shallow o r a ea m) size_is

@@ -8,64 +8,24 @@ use native.Mathlib.Numerals.{add-one}
 use native.Mathlib.Omega.{arith}
 use native.Mathlib.Decide.{dec_lt, ℕ_discrete}
 use lib.Dec.{ltb, eqb}
-use lib.ListN.{length, get_or, drop, length-drop, drop_of_length-le}
+use lib.ListN.{length, get_or}
 use lib.Pow.{pow_mono}
-use lib.Seq.{drop-cons}
-use borrow.Author.Tests.{lt-ltb, le-ltb, eq-eqb, ne_eqb, ltb-true, not-false}
+use borrow.Author.Tests.{lt-ltb, le-ltb, eq-eqb, ne_eqb, ltb-true, ltb-false, not-false}
+use Rattle.std.specs.List.{list_all, IsAllAdjacentAnswer}
+use Rattle.std.proofs.lemmas.List.Recursion.{same_from_clauses}
 use Rattle.whole.proofs.Bools.{both_true}
 use Rattle.whole.proofs.Powers.{four_by_shift}
 use Rattle.fold.specs.Folds.{has, has_all_of, all_below, ascending}
 
--- ---- the tests, entry by entry: the rest of the list tells what the whole list tells
-module _ (n : ℕ) (xs : List ℕ) (i : ℕ) (rest : all_below n (drop i xs) ≡ all_below n xs) where
-  pub below_more : i < length xs → get_or xs i 0 < n → all_below n (drop (i + 1) xs) ≡ all_below n xs
-  unfolding all_below
-  below_more h l = (rw (add-one, drop-cons xs i 0 h, lt-ltb (get_or xs i 0) n l)) ∙ rest
+unless_true : (b : Bool) → (b ≡ true → ⊥) → b ≡ false
+unless_true true f = absurd (f refl)
+unless_true false f = refl
 
-  pub below_not : i < length xs → n ≤ get_or xs i 0 → false ≡ all_below n xs
-  unfolding all_below
-  below_not h l = (rw (drop-cons xs i 0 h, le-ltb (get_or xs i 0) n l)) ∙ rest
-
-  pub below_all : length xs ≤ i → true ≡ all_below n xs
-  unfolding all_below
-  below_all h = (rw (drop_of_length-le xs {i = i} h)) ∙ rest
-
-ascending_pair : (xs : List ℕ) (i : ℕ) → suc i < length xs
-    → ascending (drop i xs) ≡ (ltb (get_or xs i 0) (get_or xs (suc i) 0) && ascending (drop (suc i) xs))
-unfolding ascending
-ascending_pair xs i h = rw (drop-cons xs i 0 (omega arith), drop-cons xs (suc i) 0 h)
-
-short_ascending : (xs : List ℕ) → length xs ≤ 1 → true ≡ ascending xs
-unfolding ascending
-short_ascending [] h = refl
-short_ascending (x ∷ []) h = refl
-short_ascending (x ∷ y ∷ xs) h = let z : ⊥ = omega arith in absurd z
-
--- the entries before i ascend
-pub record Rising (xs : List ℕ) (i : ℕ) : Type 0 where
-  pub some : 1 ≤ i
-  pub rest : ascending (drop (i - 1) xs) ≡ ascending xs
-
-pub ascending_none : (xs : List ℕ) → Rising xs 1
-ascending_none xs = record { some = omega arith; rest = refl }
-
-module _ (xs : List ℕ) (i : ℕ) (rising : Rising xs i) where
-  pair : i < length xs → ascending (drop (i - 1) xs) ≡ (ltb (get_or xs (i - 1) 0) (get_or xs i 0) && ascending (drop i xs))
-  pair h =
-      let some = rising.some in
-      let e : suc (i - 1) ≡ i = omega arith in
-      rw e at (ascending_pair xs (i - 1) (omega arith))
-
-  pub ascending_more : i < length xs → get_or xs (i - 1) 0 < get_or xs i 0 → Rising xs (i + 1)
-  ascending_more h l =
-      let e : i + 1 - 1 ≡ i = omega arith in
-      record { some = omega arith; rest = rw e (sym (rw (pair h, lt-ltb (get_or xs (i - 1) 0) (get_or xs i 0) l)) ∙ rising.rest) }
-
-  pub ascending_not : i < length xs → get_or xs i 0 ≤ get_or xs (i - 1) 0 → false ≡ ascending xs
-  ascending_not h l = sym (pair h ∙ rw (le-ltb (get_or xs (i - 1) 0) (get_or xs i 0) l)) ∙ rising.rest
-
-  pub ascending_all : length xs ≤ i → true ≡ ascending xs
-  ascending_all h = short_ascending (drop (i - 1) xs) (simp length-drop (omega arith)) ∙ rising.rest
+-- ---- the tests
+-- what `all` answers
+pub all_are_below : (n : ℕ) (xs : List ℕ) → list_all (λ s. ltb s n) xs ≡ all_below n xs
+unfolding all_below
+all_are_below n = same_from_clauses (list_all (λ s. ltb s n)) (all_below n) (λ s b. ltb s n && b) refl (λ s xs. refl) (λ s xs. refl)
 
 -- ---- what the tests say
 pub at_below : (n : ℕ) (xs : List ℕ) → all_below n xs ≡ true → (i : ℕ) → i < length xs → get_or xs i 0 < n
@@ -90,6 +50,20 @@ at_ascending (x ∷ []) e i h = let z : ⊥ = omega arith in absurd z
 at_ascending (x ∷ y ∷ xs) e zero h = ltb-true x y (both_true (ltb x y) (ascending (y ∷ xs)) e).0
 at_ascending (x ∷ y ∷ xs) e (suc i) h = at_ascending (y ∷ xs) (ascending_tail x (y ∷ xs) e) i (omega arith)
 
+from_rising : (xs : List ℕ) → ((i : ℕ) → suc i < length xs → get_or xs i 0 < get_or xs (suc i) 0) → ascending xs ≡ true
+unfolding ascending
+from_rising [] f = refl
+from_rising (x ∷ []) f = refl
+from_rising (x ∷ y ∷ xs) f = rw (lt-ltb x y (f 0 (omega arith))) (from_rising (y ∷ xs) (λ i h. f (suc i) (omega arith)))
+
+-- what `is_sorted_by` answers
+pub ascends : (xs : List ℕ) (r : Bool) → IsAllAdjacentAnswer (λ x y b. b ≡ ltb x y) xs r → r ≡ ascending xs
+ascends xs true h = sym (from_rising xs (λ i l. ltb-true (get_or xs i 0) (get_or xs (suc i) 0) (rw (← add-one i) (sym (h i 0 (omega arith))))))
+ascends xs false h =
+    let i = h.0 in
+    let l : get_or xs (suc i) 0 ≤ get_or xs i 0 = ltb-false (get_or xs i 0) (get_or xs (suc i) 0) (rw (← add-one i) (sym (h.2 0))) in
+    sym (unless_true (ascending xs) (λ e. omega (arith, at_ascending xs e i (omega (arith, h.1)))))
+
 -- d entries further stands a position that is at least d further
 pub gap : (xs : List ℕ) → ascending xs ≡ true → (i d : ℕ) → i + d < length xs → get_or xs i 0 + d ≤ get_or xs (i + d) 0
 gap xs e i zero h = simp add-zero (omega arith)
@@ -109,7 +83,7 @@ is_rising xs {ordered} f h = sym f ∙ not-false ordered h
 pub none_below : (n : ℕ) (xs : List ℕ) → length xs ≡ 0 → true ≡ all_below n xs
 none_below n xs e = sym (from_below n xs (λ i h. let z : ⊥ = omega arith in absurd z))
 
-pub last_below : (n : ℕ) (xs : List ℕ) → ascending xs ≡ true → (length xs ≡ 0 → ⊥) → ltb (get_or xs (length xs - 1) 0) n ≡ all_below n xs
+pub last_below : (n : ℕ) (xs : List ℕ) → ascending xs ≡ true → 0 < length xs → ltb (get_or xs (length xs - 1) 0) n ≡ all_below n xs
 last_below n xs e z =
     let l = length xs - 1 in
     elim (dec_lt (get_or xs l 0) n) [
@@ -117,16 +91,8 @@ last_below n xs e z =
           (let same : i + (l - i) ≡ l = omega arith in
           let g = gap xs e i (l - i) (omega arith) in
           omega (arith, ap (λ (x : ℕ). get_or xs x 0) same))))
-      | no h ↦ le-ltb (get_or xs l 0) n (omega arith) ∙ sym (not_all (all_below n xs) (λ b. h (at_below n xs b l (omega arith))))
+      | no h ↦ le-ltb (get_or xs l 0) n (omega arith) ∙ sym (unless_true (all_below n xs) (λ b. h (at_below n xs b l (omega arith))))
     ]
-  where
-    not_all : (b : Bool) → (b ≡ true → ⊥) → b ≡ false
-    not_all true f = absurd (f refl)
-    not_all false f = refl
-
-pub ruleset belows = (below_more, below_not, below_all, is_rising, none_below, last_below)
-
-pub ruleset ascents = (ascending_none, ascending_more, ascending_not, ascending_all)
 
 -- ---- what a list has
 pub has_entry : (xs : List ℕ) (i : ℕ) → i < length xs → has xs (get_or xs i 0) ≡ true

@@ -1,10 +1,12 @@
 -- Cells as pairs of numbers, there and back, and pair by pair.
 use mathlib.Core.Path.{◌≡◌, refl, sym, ap, ◌∙◌}
-use mathlib.Core.List.{List, [], ◌∷◌}
-use Prim.Native.Nat.{ℕ, zero, suc, ◌+◌, ◌-◌, ◌*◌, ◌%◌, ◌<◌, ◌≤◌}
+use mathlib.Core.List.{List, [], ◌∷◌, map}
+use Prim.Native.Nat.{ℕ, zero, suc, ◌+◌, ◌-◌, ◌*◌, ◌/◌, ◌%◌, ◌<◌, ◌≤◌}
+use native.Mathlib.Numerals.{add-one}
 use native.Mathlib.Omega.{arith}
 use lib.ListN.{length, get_or, drop, set, length-drop}
 use lib.Seq.{drop-cons}
+use Rattle.std.specs.Simd.{first_chunks}
 use Rattle.whole.proofs.Fill.{poured, poured_more}
 use Rattle.fold.specs.Cells.{Cell, cell, pairs, cells_in}
 
@@ -64,3 +66,36 @@ short (x ∷ y ∷ l) h = let z : ⊥ = omega arith in absurd z
 
 pub cells_none : (xs : List ℕ) (i : ℕ) → length xs - i < 2 → cells_in (drop i xs) ≡ []
 cells_none xs i h = short (drop i xs) (rw length-drop h)
+
+-- ---- and the cells of arrays of two, as which the code goes through pairs
+abbrev pub cell_of : List ℕ → Cell
+cell_of two = cell (get_or two 0 0) (get_or two 1 0)
+
+cells_by_two : (xs : List ℕ) → map cell_of (first_chunks 2 (length xs / 2) xs) ≡ cells_in xs
+unfolding cells_in
+cells_by_two [] = refl
+cells_by_two (m ∷ []) = refl
+cells_by_two (m ∷ p ∷ xs) =
+    let e : suc (suc (length xs)) / 2 ≡ suc (length xs / 2) = omega arith in
+    rw e (ap (λ (l : List Cell). cell m p ∷ l) (cells_by_two xs))
+
+next_of : (twos : List (List ℕ)) (i : ℕ) → i < length twos → drop i (map cell_of twos) ≡ cell_of (get_or twos i []) ∷ drop (suc i) (map cell_of twos)
+next_of [] i h = let z : ⊥ = omega arith in absurd z
+next_of (two ∷ twos) zero h = refl
+next_of (two ∷ twos) (suc i) h = next_of twos i (omega arith)
+
+none_of : (twos : List (List ℕ)) (i : ℕ) → length twos ≤ i → drop i (map cell_of twos) ≡ []
+none_of [] zero h = refl
+none_of [] (suc i) h = refl
+none_of (two ∷ twos) zero h = let z : ⊥ = omega arith in absurd z
+none_of (two ∷ twos) (suc i) h = none_of twos i (omega arith)
+
+module _ (xs : List ℕ) {twos : List (List ℕ)} (twos_is : twos ≡ first_chunks 2 (length xs / 2) xs) (i : ℕ) where
+  same : map cell_of twos ≡ cells_in xs
+  same = ap (map cell_of) twos_is ∙ cells_by_two xs
+
+  pub two_next : i < length twos → drop i (cells_in xs) ≡ cell_of (get_or twos i []) ∷ drop (i + 1) (cells_in xs)
+  two_next h = rw (add-one, ← same) (next_of twos i h)
+
+  pub two_none : length twos ≤ i → drop i (cells_in xs) ≡ []
+  two_none h = rw (← same) (none_of twos i h)

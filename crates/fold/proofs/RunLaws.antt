@@ -1,11 +1,10 @@
 -- Runs of positions one after another, and how many a list of cells has of them.
-use mathlib.Core.Path.{◌≡◌, refl, sym, ap, ◌∙◌}
-use mathlib.Core.List.{List, [], ◌∷◌, ◌++◌, append-nil}
+use mathlib.Core.Path.{◌≡◌, refl, ap, ap₂, ◌∙◌}
+use mathlib.Core.List.{List, [], ◌∷◌, ◌++◌}
 use Prim.Native.Nat.{ℕ, zero, suc, ◌+◌, ◌-◌, ◌*◌, ◌^◌, ◌<◌, ◌≤◌}
 use native.Mathlib.Nat as N
 use native.Mathlib.Omega.{arith}
-use lib.ListN.{length, get_or, drop, set, length-append, length-set}
-use Rattle.whole.proofs.Fill.{poured, poured_more, poured_all}
+use lib.ListN.{length, get_or, length-append}
 use Rattle.fold.specs.Cells.{Cell, cell}
 use Rattle.fold.specs.Unfolds.{run, unfold_of}
 use Rattle.fold.specs.Inside.Pairs.{Laid}
@@ -22,30 +21,13 @@ get_d_run zero s d rest h = let z : ⊥ = omega arith in absurd z
 get_d_run (suc n) s zero rest h = rw N.add-zero
 get_d_run (suc n) s (suc d) rest h = get_d_run n (suc s) d rest (omega arith) ∙ omega arith
 
--- ---- a run that is stored: d of its n positions stand in the place of the slice's entries
-pub record Ran (s n : ℕ) (slice : List ℕ) (d : ℕ) (out : List ℕ) : Type 0 where
-  pub within : d ≤ n
-  pub same_length : length out ≡ length slice
-  pub poured_so : out ≡ poured (run s n) d slice
-
-pub ran_none : (s n : ℕ) (slice : List ℕ) → Ran s n slice 0 slice
-ran_none s n slice = record { within = omega arith; same_length = refl; poured_so = refl }
-
-module _ (s n : ℕ) (slice : List ℕ) {d : ℕ} {out : List ℕ} (ran : Ran s n slice d out) where
-  pub ran_more : n ≤ length slice → d < n → Ran s n slice (d + 1) (set out d (s + d))
-  ran_more room h =
-      let long = length_run s n in
-      let at : s + d ≡ get_or (run s n) d 0 = sym (rw append-nil at (get_d_run n s d [] h)) in
-      record {
-        within = omega arith;
-        same_length = simp length-set ran.same_length;
-        poured_so = rw ran.poured_so (poured_more (run s n) slice d 0 (s + d) (omega arith) (omega arith) at);
-      }
-
-  pub ran_all : n ≤ d → out ≡ run s n ++ drop n slice
-  ran_all h = let w = ran.within in poured_all (run s n) slice d n (length_run s n) w h ran.poured_so
-
-pub ruleset running = (ran_none, ran_more, ran_all)
+-- a list that counts from s is a run
+pub run_is : (n s : ℕ) (xs : List ℕ) → length xs ≡ n → ((k : ℕ) → k < n → get_or xs k 0 ≡ s + k) → xs ≡ run s n
+unfolding run
+run_is zero s [] e f = refl
+run_is zero s (x ∷ xs) e f = let z : ⊥ = omega arith in absurd z
+run_is (suc n) s [] e f = let z : ⊥ = omega arith in absurd z
+run_is (suc n) s (x ∷ xs) e f = ap₂ ◌∷◌ (rw N.add-zero at (f 0 (omega arith))) (run_is n (suc s) xs (omega arith) (λ k h. f (suc k) (omega arith) ∙ omega arith))
 
 -- ---- all runs of a list of cells
 pub length_unfold : (r m p : ℕ) (cells : List Cell) → length (unfold_of r (cell m p ∷ cells)) ≡ 4 ^ (r - m) + length (unfold_of r cells)

@@ -8,15 +8,17 @@ use native.Mathlib.Decide.{dec_le}
 use lib.Dec.{leb}
 use lib.ListN.{length, drop}
 use borrow.Author.Tests.{lt-ltb, le-ltb, le-leb, leb-true}
+use Rattle.triple.specs.declared.refusal.Refusal.{Refusal}
 use Rattle.triple.specs.declared.refusal.Refusal.TheVariants as Is
 use Rattle.triple.specs.Refusals.{Told, told, refused, number_of}
-use Rattle.triple.specs.Lent.{count_of, after_call}
+use Rattle.triple.specs.Lent.{count_of, after_call, Counted}
 use Rattle.triple.proofs.LentLaws.{count_short, count_whole}
+use Rattle.fold.specs.declared.pairs.Fault.{Fault}
+use Rattle.fold.specs.declared.pairs.Fault.TheVariants as Test
 use Rattle.fold.specs.Cells.{Cell, cells_in}
-use Rattle.fold.specs.Unfolds.{shallow, inside, ordered, passes, unfold_call}
-use Rattle.fold.specs.Inside.Pairs.{Tested}
+use Rattle.fold.specs.Unfolds.{shallow, inside, ordered, passes, passed_before, unfold_call}
+use Rattle.fold.specs.Inside.Pairs.{refusal_at}
 use Rattle.whole.proofs.Bools.{both_true}
-use Rattle.fold.proofs.PairTestLaws.{ordered_laid}
 use Rattle.fold.proofs.FoldAnswerLaws.{refused_count, refused_left}
 use Rattle.fold.proofs.UnfoldLaws.{positions_of}
 
@@ -79,7 +81,7 @@ all_passed true false c e f g = absurd (f refl)
 all_passed false b c e f g = absurd (e refl)
 
 -- ---- the tests
-module _ (o r : ℕ) (xs slice : List ℕ) {passed : ℕ} (passed_is : passed ≡ passes r xs) where
+module _ (o r : ℕ) (xs : List ℕ) {passed : ℕ} (passed_is : passed ≡ passes r xs) where
   abbrev cells : List Cell
   cells = cells_in xs
 
@@ -92,12 +94,6 @@ module _ (o r : ℕ) (xs slice : List ℕ) {passed : ℕ} (passed_is : passed �
           | yes h ↦ (let g : shallow r cells ≡ false = rw (le-leb r 30 h) at f in simp (le-ltb 30 r h, g))
           | no h ↦ simp (lt-ltb 30 r (omega arith))
         ]
-
-    pub deep_count : refused (number_of Is.Resolution) ≡ count_of (unfold_call o r xs) slice
-    deep_count = refused_count slice deep
-
-    pub deep_left : slice ≡ after_call (unfold_call o r xs) slice
-    deep_left = refused_left slice deep
 
   module _ (some : passed ≡ 0 → ⊥) where
     both : (leb r 30 ≡ true) × (shallow r cells ≡ true)
@@ -112,12 +108,6 @@ module _ (o r : ℕ) (xs slice : List ℕ) {passed : ℕ} (passed_is : passed �
       unfolding unfold_call
       unoriented = simp (le-ltb 30 r low, both.1, lt-ltb 5 o h)
 
-      pub unoriented_count : refused (number_of Is.Orientation) ≡ count_of (unfold_call o r xs) slice
-      unoriented_count = refused_count slice unoriented
-
-      pub unoriented_left : slice ≡ after_call (unfold_call o r xs) slice
-      unoriented_left = refused_left slice unoriented
-
     module _ (oriented : o ≤ 5) where
       module _ (e : passed ≡ 1) where
         past : refused (number_of Is.Position) ≡ unfold_call o r xs
@@ -126,12 +116,6 @@ module _ (o r : ℕ) (xs slice : List ℕ) {passed : ℕ} (passed_is : passed �
             let f = one_passed (leb r 30 && shallow r cells) (inside cells) (ordered r xs) (sym passed_is ∙ e) in
             simp (le-ltb 30 r low, both.1, le-ltb 5 o oriented, f)
 
-        pub past_count : refused (number_of Is.Position) ≡ count_of (unfold_call o r xs) slice
-        past_count = refused_count slice past
-
-        pub past_left : slice ≡ after_call (unfold_call o r xs) slice
-        past_left = refused_left slice past
-
       module _ (e : passed ≡ 2) where
         unordered : refused (number_of Is.Order) ≡ unfold_call o r xs
         unfolding passes unfold_call
@@ -139,28 +123,52 @@ module _ (o r : ℕ) (xs slice : List ℕ) {passed : ℕ} (passed_is : passed �
             let f = two_passed (leb r 30 && shallow r cells) (inside cells) (ordered r xs) (sym passed_is ∙ e) in
             simp (le-ltb 30 r low, both.1, le-ltb 5 o oriented, f.0, f.1)
 
-        pub unordered_count : refused (number_of Is.Order) ≡ count_of (unfold_call o r xs) slice
-        unordered_count = refused_count slice unordered
-
-        pub unordered_left : slice ≡ after_call (unfold_call o r xs) slice
-        unordered_left = refused_left slice unordered
-
       module _ (e : passed ≡ 1 → ⊥) (f : passed ≡ 2 → ⊥) where
         sound : (inside cells ≡ true) × (ordered r xs ≡ true)
         unfolding passes
         sound = all_passed (leb r 30 && shallow r cells) (inside cells) (ordered r xs) (λ z. some (passed_is ∙ z)) (λ z. e (passed_is ∙ z)) (λ z. f (passed_is ∙ z))
 
-        pub tested : Tested r xs
-        tested = record { low = low; laid = ordered_laid r xs both.1 sound.0 sound.1 }
-
         unfolded : told (positions_of r xs) ≡ unfold_call o r xs
         unfolding unfold_call
         unfolded = simp (le-ltb 30 r low, both.1, le-ltb 5 o oriented, sound.0, sound.1)
 
-        pub unfolded_count : {t : Told ℕ} → t ≡ count_of (told (positions_of r xs)) slice → t ≡ count_of (unfold_call o r xs) slice
-        unfolded_count c = rw (← unfolded) c
+-- by the test that a list fails
+module _ (o r : ℕ) (xs slice : List ℕ) where
+  faulty : (fault : Fault) → passed_before fault ≡ passes r xs → refused (number_of (refusal_at o fault)) ≡ unfold_call o r xs
+  faulty Test.Resolution e = deep o r xs e refl
+  faulty Test.Position e = elim (dec_le o 5) [
+    | yes h ↦ rw (le-ltb 5 o h) (past o r xs e (λ z. omega arith) h refl)
+    | no h ↦ rw (lt-ltb 5 o (omega arith)) (unoriented o r xs e (λ z. omega arith) (omega arith))
+  ]
+  faulty Test.Order e = elim (dec_le o 5) [
+    | yes h ↦ rw (le-ltb 5 o h) (unordered o r xs e (λ z. omega arith) h refl)
+    | no h ↦ rw (lt-ltb 5 o (omega arith)) (unoriented o r xs e (λ z. omega arith) (omega arith))
+  ]
 
-        pub unfolded_left : {out : List ℕ} → out ≡ after_call (told (positions_of r xs)) slice → out ≡ after_call (unfold_call o r xs) slice
-        unfolded_left c = rw (← unfolded) c
+  module _ (fault : Fault) (e : passed_before fault ≡ passes r xs) {refusal : Refusal} (refusal_is : refusal ≡ refusal_at o fault) where
+    refuses : refused (number_of refusal) ≡ unfold_call o r xs
+    refuses = rw refusal_is (faulty fault e)
 
-pub ruleset unfolding_tests = (deep_count, deep_left, unoriented_count, unoriented_left, past_count, past_left, unordered_count, unordered_left, tested, unfolded_count, unfolded_left)
+    pub faulty_count : refused (number_of refusal) ≡ count_of (unfold_call o r xs) slice
+    faulty_count = refused_count slice refuses
+
+    pub faulty_left : slice ≡ after_call (unfold_call o r xs) slice
+    faulty_left = refused_left slice refuses
+
+-- of a list that passes
+module _ (o r : ℕ) (xs slice : List ℕ) (e : 3 ≡ passes r xs) where
+  module _ (h : 5 < o) where
+    no_orientation : refused (number_of Is.Orientation) ≡ unfold_call o r xs
+    no_orientation = unoriented o r xs e (λ z. omega arith) h
+
+    pub unoriented_count : refused (number_of Is.Orientation) ≡ count_of (unfold_call o r xs) slice
+    unoriented_count = refused_count slice no_orientation
+
+    pub unoriented_left : slice ≡ after_call (unfold_call o r xs) slice
+    unoriented_left = refused_left slice no_orientation
+
+  -- its cells, which are of the same pairs
+  pub unfolds : o ≤ 5 → {m : ℕ} {ys : List ℕ} → (m ≡ r) × (ys ≡ xs) → {t : Told ℕ} {out : List ℕ} → Counted (told (positions_of m ys)) slice t out → Counted (unfold_call o r xs) slice t out
+  unfolds h s c = let f = unfolded o r xs e (λ z. omega arith) h (λ z. omega arith) (λ z. omega arith) in rw (s.0, s.1, f) at c
+
+pub ruleset unfolding_tests = (faulty_count, faulty_left, unoriented_count, unoriented_left)

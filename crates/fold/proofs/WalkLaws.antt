@@ -1,6 +1,6 @@
 -- The walk of the code along a list: how many cells of the fold are behind it, and which one is next.
 use mathlib.Core.Bool.{true}
-use mathlib.Core.Path.{◌≡◌, refl, sym, ap, ap₂}
+use mathlib.Core.Path.{◌≡◌, refl, sym, ap, ap₂, ◌∙◌}
 use mathlib.Core.List.{List, [], ◌∷◌, ◌++◌}
 use Prim.Native.Nat.{ℕ, ◌+◌, ◌-◌, ◌*◌, ◌/◌, ◌^◌, ◌<◌, ◌≤◌}
 use native.Mathlib.Nat as N
@@ -124,10 +124,5 @@ pub no_more_cells : (r : ℕ) (xs : List ℕ) → all_below (4 ^ r) xs ≡ true 
 no_more_cells r xs below up = omega (arith, few_cells r xs up 0 (fold_of r xs) (fold_steps r xs up below))
 
 -- so a room for as many needs no count
-pub room_enough : (r : ℕ) (xs : List ℕ) → Listed r xs → {room : ℕ} → length xs ≤ room → true ≡ leb (length (fold_of r xs)) room
-room_enough r xs g {room} h = sym (le-leb (length (fold_of r xs)) room (omega (arith, no_more_cells r xs g.inside g.rising)))
-
-pub room_counted : (r : ℕ) (xs : List ℕ) (room : ℕ) {n : ℕ} → n ≡ length (fold_of r xs) → leb n room ≡ leb (length (fold_of r xs)) room
-room_counted r xs room e = ap (λ (n : ℕ). leb n room) e
-
-pub ruleset rooms = (room_enough, room_counted)
+pub room_enough : (r : ℕ) (xs : List ℕ) → Listed r xs → {room : ℕ} → length xs ≤ room → leb (length xs) room ≡ leb (length (fold_of r xs)) room
+room_enough r xs g {room} h = le-leb (length xs) room h ∙ sym (le-leb (length (fold_of r xs)) room (omega (arith, no_more_cells r xs g.inside g.rising)))

@@ -2,5 +2,4 @@ pub mod Cells
 pub mod Folds
 pub mod Unfolds
 pub mod Foldings
-pub mod Answers
 pub mod Inside

@@ -1,21 +1,25 @@
 -- A text cut into rows and a row into fields, in the form of what the code has in hand: the place of the next LF or space.
 use mathlib.Core.Path.{◌≡◌, refl, sym, ap, ◌∙◌, subst}
-use mathlib.Core.Bool.{Bool, true, false, not, cond, ◌&&◌}
+use mathlib.Core.Bool.{Bool, true, false, cond, ◌&&◌}
 use mathlib.Core.List.{List, [], ◌∷◌, head-eq_of_cons-eq, tail-eq_of_cons-eq}
 use Prim.Native.Nat.{ℕ, suc, ◌+◌, ◌-◌, ◌≤◌, ◌<◌}
 use native.Mathlib.Numerals.{add-one}
 use native.Mathlib.Omega.{arith}
 use native.Mathlib.Decide.{dec_lt}
 use lib.Dec.{leb, eqb, leb→le}
-use lib.ListN.{length, get_or, take, drop, length-drop, drop_of_length-le}
-use lib.Seq.{drop-cons, length-take-le, drop-drop, get_or-take, take-take}
-use borrow.Author.Tests.{eq-eqb, ne_eqb, not-true, not-false}
+use lib.ListN.{length, get_or, take, drop, length-drop}
+use lib.Seq.{length-take-le, drop-drop, get_or-take, take-take}
+use borrow.Author.Tests.{eq-eqb, ne_eqb}
+use Rattle.std.specs.Prelude.{Some, None}
+use Rattle.std.proofs.Common.{Option}
+use Rattle.std.specs.Option.{MatchOption, unwrap_or}
+use Rattle.std.specs.List.{AllWithin, HoldsAt}
+use Rattle.std.proofs.lemmas.Iterator.{index_from_first}
 use Rattle.whole.proofs.Bools.{both_left, both_right, is_true, from_true}
 use Rattle.text.specs.Words.{grown, words_of as fields_of, until}
 use Rattle.grammar.specs.Texts.{Row, rows_of, prefixed, shaped, line_of}
 use Rattle.whole.proofs.Slices.{drop_take}
 use Rattle.grammar.specs.Inside.RowCuts.{ended, Cut, Misshapen, Three, WholeRow, FirstRow}
-use Rattle.grammar.specs.declared.scan.Shape.{Shape}
 
 span : (n most : ℕ) → (leb 1 n && leb n most) ≡ true → (1 ≤ n) × (n ≤ most)
 span n most e = let t = from_true e in (leb→le 1 n (both_left (leb 1 n) (leb n most) t), leb→le n most (both_right (leb 1 n) (leb n most) t))
@@ -31,32 +35,11 @@ module _ (b : ℕ) where
       go true h = omega arith
       go false h = omega arith
 
-  -- none of the first i bytes is b
-  pub record Passing (s : List ℕ) (i : ℕ) : Type 0 where
-    pub within : i ≤ length s
-    pub sum : until b s ≡ i + until b (drop i s)
-
-  pub passing_none : (s : List ℕ) → Passing s 0
-  passing_none s = record { within = omega arith; sum = omega arith }
-
-  module _ {s : List ℕ} {i : ℕ} (p : Passing s i) where
-    pub passing_next : i < length s → (get_or s i 0 ≡ b → ⊥) → Passing s (i + 1)
-    unfolding until
-    passing_next h e =
-        let step : until b (drop i s) ≡ suc (until b (drop (i + 1) s)) = rw (add-one, drop-cons s i 0, ne_eqb (get_or s i 0) b e) refl in
-        record { within = omega arith; sum = omega (arith, p.sum) }
-
-    pub passing_here : i < length s → get_or s i 0 ≡ b → i ≡ until b s
-    unfolding until
-    passing_here h e =
-        let stop : until b (drop i s) ≡ 0 = rw (drop-cons s i 0, eq-eqb (get_or s i 0) b e) refl in
-        omega (arith, p.sum)
-
-    pub passing_all : length s ≤ i → i ≡ until b s
-    unfolding until
-    passing_all h =
-        let stop : until b (drop i s) ≡ 0 = rw (drop_of_length-le s {i = i} h) refl in
-        omega (arith, p.sum)
+  -- by the first b, as a search finds it
+  pub until_first : (s : List ℕ) (r : Option ℕ) → MatchOption r (AllWithin (λ x. x ≡ b → ⊥) s 0 (length s)) (λ i. (i < length s) × HoldsAt (λ x. x ≡ b) s i × AllWithin (λ x. x ≡ b → ⊥) s 0 i)
+      → until b s ≡ unwrap_or r (length s)
+  unfolding until
+  until_first = index_from_first (until b) (λ x. x ≡ b) (λ x. x ≡ b → ⊥) refl (λ x s e. rw (eq-eqb x b e) refl) (λ x s e. rw (ne_eqb x b e) (sym (add-one _)))
 
 -- ---- rows
 pub rows_ended : (t : List ℕ) → until 10 t < length t → rows_of t ≡ ended (take (until 10 t) t) ∷ rows_of (drop (suc (until 10 t)) t)
@@ -151,23 +134,23 @@ module _ (w : List ℕ) {a : ℕ} (ea : a ≡ until 32 w) where
             rw (three_fields, length-take-le a w (omega arith), length-take-le k r (omega arith), d_is) refl
 
         module _ {u : Bool} (e : u ≡ (leb 1 a && leb a 1)) where
-          pub bad_name : not u ≡ true → shaped (ended w) ≡ false
-          bad_name t = sizes ∙ (rw (sym e ∙ not-true u t) refl)
+          pub bad_name : u ≡ false → shaped (ended w) ≡ false
+          bad_name t = sizes ∙ (rw (sym e ∙ t) refl)
 
-          module _ (t : not u ≡ false) {v : Bool} (f : v ≡ (leb 1 k && leb k 24)) where
-            pub bad_rule : not v ≡ true → shaped (ended w) ≡ false
-            bad_rule s = sizes ∙ (rw (sym e ∙ not-false u t, sym f ∙ not-true v s) refl)
+          module _ (t : u ≡ true) {v : Bool} (f : v ≡ (leb 1 k && leb k 24)) where
+            pub bad_rule : v ≡ false → shaped (ended w) ≡ false
+            bad_rule s = sizes ∙ (rw (sym e ∙ t, sym f ∙ s) refl)
 
-            module _ (s : not v ≡ false) {x : Bool} (g : x ≡ (leb 1 d && leb d 12)) where
-              pub bad_draw : not x ≡ true → shaped (ended w) ≡ false
-              bad_draw y = sizes ∙ (rw (sym e ∙ not-false u t, sym f ∙ not-false v s, sym g ∙ not-true x y) refl)
+            module _ (s : v ≡ true) {x : Bool} (g : x ≡ (leb 1 d && leb d 12)) where
+              pub bad_draw : x ≡ false → shaped (ended w) ≡ false
+              bad_draw y = sizes ∙ (rw (sym e ∙ t, sym f ∙ s, sym g ∙ y) refl)
 
-              pub three : not x ≡ false → Three w k (length w)
+              pub three : x ≡ true → Three w k (length w)
               unfolding line_of
               three y =
-                  let ua = span a 1 (sym e ∙ not-false u t) in
-                  let uk = span k 24 (sym f ∙ not-false v s) in
-                  let ud = span d 12 (sym g ∙ not-false x y) in
+                  let ua = span a 1 (sym e ∙ t) in
+                  let uk = span k 24 (sym f ∙ s) in
+                  let ud = span d 12 (sym g ∙ y) in
                   let d_is : length l ≡ d = omega (arith, until_most 32 l) in
                   let a_is : a ≡ 1 = omega arith in
                   let r_is : r ≡ drop 2 w = er ∙ (rw a_is refl) in
@@ -177,7 +160,7 @@ module _ (w : List ℕ) {a : ℕ} (ea : a ≡ until 32 w) where
                   let named : get_or (take a w) 0 0 ≡ get_or w 0 0 = get_or-take a w 0 0 (omega arith) in
                   record {
                     size = refl;
-                    good = sizes ∙ (rw (sym e ∙ not-false u t, sym f ∙ not-false v s, sym g ∙ not-false x y) refl);
+                    good = sizes ∙ (rw (sym e ∙ t, sym f ∙ s, sym g ∙ y) refl);
                     line = rw three_fields (λ i. record { name = named i; rule = take k (r_is i); draw = l_is i });
                     rule_fits = omega arith;
                     draw_fits = omega arith;
@@ -215,9 +198,9 @@ module _ (w : List ℕ) (good : shaped (ended w) ≡ true) where
       let draw = leb 1 draw_long && leb draw_long 12 in
       let all = from_true (sym (sizes w refl ha refl refl hk refl refl hd) ∙ good) in
       let front = both_left (name && rule) draw all in
-      let name_good : not name ≡ false = ap not (sym (is_true name (both_left name rule front))) in
-      let rule_good : not rule ≡ false = ap not (sym (is_true rule (both_right name rule front))) in
-      let draw_good : not draw ≡ false = ap not (sym (is_true draw (both_right (name && rule) draw all))) in
+      let name_good : name ≡ true = sym (is_true name (both_left name rule front)) in
+      let rule_good : rule ≡ true = sym (is_true rule (both_right name rule front)) in
+      let draw_good : draw ≡ true = sym (is_true draw (both_right (name && rule) draw all)) in
       record { long = rule_long; cut = three w refl ha refl refl hk refl refl hd refl name_good refl rule_good refl draw_good }
 
   pub shaped_three : Spaced w
@@ -267,9 +250,9 @@ module _ (t : List ℕ) {n : ℕ} (en : n ≡ until 10 t) where
           inside = h;
         }
 
-    pub first_shape : (s : Shape) → WholeRow w s → FirstRow t s
-    first_shape (Shape.Line k m) p = first_line p
-    first_shape Shape.Other p = other_row p
+    pub first_shape : (s : Option (ℕ × ℕ)) → WholeRow w s → FirstRow t s
+    first_shape (Some (k, m)) p = first_line p
+    first_shape None p = other_row p
 
 -- ---- a text whose first row has the shape
 pub record FirstLine (t : List ℕ) (r : Row) (rest : List Row) : Type 0 where

@@ -1,4 +1,5 @@
 -- One expansion pass, byte by byte, in the form of what the code has in hand: the room that is left over, and the buffer so far.
+use Rattle.std.specs.Prelude.{Option, Ok}
 use mathlib.Core.Path.{◌≡◌, refl, sym, ap, ◌∙◌}
 use mathlib.Core.Bool.{true, false}
 use mathlib.Core.List.{List, [], ◌∷◌, ◌++◌, append-nil}
@@ -10,14 +11,11 @@ use lib.ListN.{length, get_or, take, drop, length-append, take-append-drop, drop
 use lib.Seq.{take_all, take-suc, drop-cons}
 use borrow.Rule.Slice.PartMut.{put_mid}
 use borrow.Author.Tests.{le-leb, lt-leb}
-use mathlib.Core.Option.{Option}
-use Rattle.triple.specs.Refusals.{told}
+use Rattle.triple.specs.Refusals.{told, said}
 use Rattle.triple.specs.Lent.{count_of, after_call}
 use Rattle.triple.proofs.LentLaws.{count_whole}
 use Rattle.whole.proofs.Fill.{fronted, length_fronted, fronted_back}
-use Rattle.grammar.specs.declared.word.WordAnswer.TheVariants.{Written}
 use Rattle.grammar.specs.Words.{word_of, expand_once}
-use Rattle.grammar.specs.WordAnswers.{said_word}
 use Rattle.grammar.proofs.ReversalLaws.{pass_append}
 
 -- ---- one pass
@@ -102,7 +100,7 @@ module _ {book : ℕ → Option (List ℕ)} {s d out : List ℕ} {at i : ℕ} (b
           so_far = e;
         }
 
-  pub passed_all : length s ≤ i → (said_word (Written at) ≡ count_of (told (expand_once book s)) d) × (out ≡ after_call (told (expand_once book s)) d)
+  pub passed_all : length s ≤ i → (said (Ok at) ≡ count_of (told (expand_once book s)) d) × (out ≡ after_call (told (expand_once book s)) d)
   passed_all h =
       let all = take_all i s h in
       let end : at ≡ length (expand_once book s) = rw all at before.place in

@@ -2,14 +2,14 @@
 use mathlib.Core.Path.{◌≡◌, refl, sym, ap, ◌∙◌}
 use mathlib.Core.Bool.{false}
 use mathlib.Core.List.{List, [], ◌∷◌, ◌++◌, append-nil}
-use mathlib.Core.Option.{some-injective, some-ne-none, none-ne-some}
 use Prim.Native.Nat.{ℕ, ◌+◌, ◌%◌, ◌<◌}
 use native.Mathlib.Omega.{arith}
 use borrow.Author.Tests.{ne_eqb}
 use lib.Dec.{eqb}
+use Rattle.std.proofs.lemmas.Option.{none-some, same_Some}
+use Rattle.std.specs.Prelude.{Option, Some, None}
 use Rattle.turtle.specs.declared.AB.{AB}
 use Rattle.turtle.specs.declared.letter.Stroke.{Stroke}
-use Rattle.turtle.specs.declared.letter.Letter.{Letter}
 use Rattle.turtle.specs.Plane.{origin, ◌⊕◌, rots}
 use Rattle.turtle.specs.Letters.{stroke_of}
 use Rattle.turtle.specs.Walk.{Sym, left, right, letter, drawn, symbol_of, symbols_of, turtle, start, move, final}
@@ -91,11 +91,11 @@ symbol_drawn b p m = rw (p, m)
 drawn_letter : (b : ℕ) → 45 < b → symbol_of b ≡ drawn (stroke_of b)
 drawn_letter b k = symbol_drawn b (ne_eqb b 43 (omega arith)) (ne_eqb b 45 (omega arith))
 
-drawn_mirror : (k l : Letter) → stepped k ≡ stepped l → Mirror Alike (drawn k) (drawn l)
-drawn_mirror (Letter.Draws s) (Letter.Draws t) e = met (some-injective _ _ e)
-drawn_mirror (Letter.Draws s) Letter.NoDraw e = absurd (some-ne-none _ e)
-drawn_mirror Letter.NoDraw (Letter.Draws t) e = absurd (none-ne-some _ e)
-drawn_mirror Letter.NoDraw Letter.NoDraw e = blank
+drawn_mirror : (k l : Option Stroke) → stepped k ≡ stepped l → Mirror Alike (drawn k) (drawn l)
+drawn_mirror (Some s) (Some t) e = met (same_Some _ _ e)
+drawn_mirror (Some s) None e = absurd (none-some _ (sym e))
+drawn_mirror None (Some t) e = absurd (none-some _ e)
+drawn_mirror None None e = blank
 
 symbol_mirror : (b : ℕ) → Mirror Alike (symbol_of b) (symbol_of (mirrored b))
 unfolding symbol_of mirrored

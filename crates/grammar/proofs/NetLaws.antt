@@ -10,12 +10,12 @@ use lib.Dec.{eqb}
 use lib.IntN.{pos}
 use lib.ListN.{length, get_or, take, drop, length-take}
 use lib.Seq.{take-suc, take_all}
-use Rattle.triple.specs.Refusals.{told}
+use Rattle.std.specs.Prelude.{Result, Option, Some, None}
+use Rattle.triple.specs.Refusals.{told, said}
 use Rattle.triple.specs.Lent.{count_of, after_call}
 use Rattle.whole.proofs.Bools.{is_true, is_false}
 use Rattle.whole.proofs.View.{view, v_var, le_by, le_of}
 use Rattle.turtle.specs.declared.AB.{AB}
-use Rattle.turtle.specs.declared.letter.Letter.{Letter}
 use Rattle.turtle.specs.declared.letter.Stroke.{Stroke}
 use Rattle.turtle.specs.declared.walk.DrawnCell.{DrawnCell}
 use Rattle.turtle.specs.declared.walk.Turtle.{Turtle}
@@ -32,9 +32,8 @@ use Rattle.turtle.proofs.LimitLaws.{far_false}
 use Rattle.turtle.proofs.WordLaws.{final_append}
 use Rattle.grammar.specs.declared.lines.Lines.{Lines}
 use Rattle.grammar.specs.declared.word.Book.{Book}
-use Rattle.grammar.specs.declared.word.WordAnswer.{WordAnswer}
 use Rattle.grammar.specs.Words.{expand_once}
-use Rattle.grammar.specs.WordAnswers.{said_word, written}
+use Rattle.grammar.specs.WordAnswers.{written}
 use Rattle.grammar.specs.Books.{book_of}
 use Rattle.grammar.specs.Texts.{Line}
 use Rattle.grammar.specs.Curves.{rules, draws, passes, strokes, net}
@@ -44,6 +43,7 @@ use Rattle.grammar.specs.Scans.{draw_book}
 use Rattle.grammar.proofs.BookPassLaws.{rules_written, rules_count, draws_cut, draws_most}
 use Rattle.grammar.proofs.TurnLaws.{turned_small}
 use Rattle.grammar.proofs.GrammarLaws.{final_heading}
+use Rattle.triple.specs.declared.refusal.Refusal.{Refusal}
 
 -- ---- a walk's step
 after : Stepped → Turtle → Turtle
@@ -56,11 +56,11 @@ pub one_symbol : (b : ℕ) → length (symbol_of b) ≤ 1
 unfolding symbol_of
 one_symbol b = go (eqb b 43) (eqb b 45) (stroke_of b)
   where
-    go : (p m : Bool) (l : Letter) → length (cond p (left ∷ []) (cond m (right ∷ []) (drawn l))) ≤ 1
+    go : (p m : Bool) (l : Option Stroke) → length (cond p (left ∷ []) (cond m (right ∷ []) (drawn l))) ≤ 1
     go true m l = omega arith
     go false true l = omega arith
-    go false false (Letter.Draws s) = omega arith
-    go false false Letter.NoDraw = omega arith
+    go false false (Some s) = omega arith
+    go false false None = omega arith
 
 after_symbols : (w : List (Sym Stroke)) → length w ≤ 1 → (t : Turtle) → after (step_by w t) t ≡ final w t
 unfolding after final
@@ -115,10 +115,10 @@ module _ (b : ℕ) (t : Turtle) (small : Small 65536 t.at × (t.heading < 6)) wh
     step_lost f = sym (ap (λ s. after s t) f) ∙ step_after e
 
 -- ---- a walk's sizes
-drawn_small : (b m : ℕ) (t : Turtle) → Small m t.at → (l : Letter) → l ≡ stroke_of b → Small (m + 8) (final (drawn l) t).at
+drawn_small : (b m : ℕ) (t : Turtle) → Small m t.at → (l : Option Stroke) → l ≡ stroke_of b → Small (m + 8) (final (drawn l) t).at
 unfolding final move
-drawn_small b m t h (Letter.Draws s) e = add_small h (rots_small t.heading (stroke_small b e).step)
-drawn_small b m t h Letter.NoDraw e = small_more (omega arith) h
+drawn_small b m t h (Some s) e = add_small h (rots_small t.heading (stroke_small b e).step)
+drawn_small b m t h None e = small_more (omega arith) h
 
 symbol_small : (b m : ℕ) (t : Turtle) → Small m t.at → Small (m + 8) (final (symbol_of b) t).at
 unfolding symbol_of
@@ -172,42 +172,36 @@ twice_not p q h = is_false (equal_ab p q) (λ t. h (equal_pairs p q t))
 
 -- ---- the nets
 -- the draws of a word, into a buffer with room for twelve bytes each
-module _ (text : List ℕ) {ls : Lines} (sized : Sized ls) (w : List ℕ) (few : length w ≤ 576) {book : Book} (book_is : book ≡ draw_book ls) (buffer : List ℕ) (a : WordAnswer) {last : List ℕ}
-    (said : said_word a ≡ count_of (told (expand_once (book_of text book) w)) buffer) (left : last ≡ after_call (told (expand_once (book_of text book) w)) buffer) {n : ℕ} (count : n ≡ written (said_word a)) (room : 6912 ≤ length buffer)
+module _ (text : List ℕ) {ls : Lines} (sized : Sized ls) (w : List ℕ) (few : length w ≤ 576) {book : Book} (book_is : book ≡ draw_book ls) (buffer : List ℕ) (a : Result ℕ Refusal) {last : List ℕ}
+    (says : said a ≡ count_of (told (expand_once (book_of text book) w)) buffer) (left : last ≡ after_call (told (expand_once (book_of text book) w)) buffer) {n : ℕ} (count : n ≡ written (said a)) (room : 6912 ≤ length buffer)
     {v : List ℕ} (cut : v ≡ take n (drop 0 last)) where
   pub drawn_long : length v ≤ 8192
-  drawn_long = draws_most text sized w buffer a said left count book_is (omega arith) cut (omega arith)
+  drawn_long = draws_most text sized w buffer a says left count book_is (omega arith) cut (omega arith)
 
   pub drawn_ends : {p : AB} → p ≡ (final (symbols_of v) start).at → p ≡ (final (symbols_of (expand_once (draws (lines_by text ls)) w)) start).at
-  drawn_ends e = e ∙ ap (λ v. (final (symbols_of v) start).at) (draws_cut text sized w buffer a said left count book_is (omega arith) cut)
+  drawn_ends e = e ∙ ap (λ v. (final (symbols_of v) start).at) (draws_cut text sized w buffer a says left count book_is (omega arith) cut)
 
 -- a word that is cut off behind its last byte
 module _ (last : List ℕ) (n : ℕ) {v : List ℕ} (cut : v ≡ take n (drop 0 last)) where
+  pub cut_is : {w : List ℕ} → take n last ≡ w → v ≡ w
+  cut_is written = cut ∙ written
+
   pub cut_most : {k : ℕ} → n ≤ k → length v ≤ k
   cut_most h = rw (cut, length-take) (omega arith)
 
-  pub cut_ruled : (w : List ℕ) → n ≤ 24 * length w → length w ≤ 24 → length v ≤ 576
-  cut_ruled w h k = cut_most (omega arith)
+-- test 19
+module _ (ls : List Line) (l : Line) {v : List ℕ} (word_is : v ≡ expand_once (rules ls) (l.name ∷ []))
+    {p q : AB} (p_is : p ≡ (final (symbols_of (expand_once (draws ls) v)) start).at) (q_is : q ≡ (final (symbols_of (expand_once (draws ls) (expand_once (rules ls) v))) start).at) where
+  net_one : p ≡ net ls 1 l.name
+  unfolding net strokes passes
+  net_one = p_is ∙ (rw word_is refl)
 
-  pub cut_ends : (ls : List Line) {w : List ℕ} → take n last ≡ w → {p : AB} → p ≡ (final (symbols_of (expand_once (draws ls) v)) start).at → p ≡ (final (symbols_of (expand_once (draws ls) w)) start).at
-  cut_ends ls written e = e ∙ ap (λ v. (final (symbols_of (expand_once (draws ls) v)) start).at) (cut ∙ written)
+  net_two : q ≡ net ls 2 l.name
+  unfolding net strokes passes
+  net_two = q_is ∙ (rw word_is refl)
 
-  -- test 19
-  module _ (ls : List Line) (l : Line) (once : take n last ≡ expand_once (rules ls) (l.name ∷ []))
-      {p q : AB} (p_is : p ≡ (final (symbols_of (expand_once (draws ls) v)) start).at) (q_is : q ≡ (final (symbols_of (expand_once (draws ls) (expand_once (rules ls) v))) start).at) where
-    word_is : v ≡ expand_once (rules ls) (l.name ∷ [])
-    word_is = cut ∙ once
+  pub net_verdict : {r : Bool} → r ≡ equal_ab q (p ⊕ p) → not r ≡ bad_net ls l
+  unfolding bad_net
+  net_verdict e = ap not e ∙ (rw (net_one, net_two) refl)
 
-    net_one : p ≡ net ls 1 l.name
-    unfolding net strokes passes
-    net_one = p_is ∙ (rw word_is refl)
-
-    net_two : q ≡ net ls 2 l.name
-    unfolding net strokes passes
-    net_two = q_is ∙ (rw word_is refl)
-
-    pub net_verdict : {r : Bool} → r ≡ equal_ab q (p ⊕ p) → not r ≡ bad_net ls l
-    unfolding bad_net
-    net_verdict e = ap not e ∙ (rw (net_one, net_two) refl)
-
-pub ruleset netting = (drawn_long, drawn_ends, rules_written, rules_count, cut_most, cut_ruled, cut_ends, net_verdict)
+pub ruleset netting = (drawn_long, drawn_ends, rules_written, rules_count, cut_is, cut_most, net_verdict)

@@ -1,8 +1,8 @@
 -- Words met from the other end. To reverse twice is to do nothing; and a pass over the reverse is the reverse of the pass, as long as the book has words for uppercase letters alone.
+use Rattle.std.specs.Prelude.{Option, None, Some}
 use mathlib.Core.Path.{◌≡◌, refl, sym, ap, ◌∙◌, subst}
 use mathlib.Core.Bool.{Bool, true, false}
 use mathlib.Core.List.{List, [], ◌∷◌, ◌++◌, map, reverse-cons, reverse-append, map-append, append_assoc, append-nil}
-use mathlib.Core.Option.{Option, none, some}
 use Prim.Native.Nat.{ℕ, ◌+◌, ◌-◌, ◌≤◌}
 use native.Mathlib.Omega.{arith}
 use borrow.Author.Tests.{ne_eqb, eqb-true, le-leb, lt-leb}
@@ -99,10 +99,10 @@ pass_append book (b ∷ v) w = rw (pass_append book v w) (sym (append_assoc (wor
 
 -- the word of an uppercase letter, as the book has it
 abbrev own : ℕ → Option (List ℕ) → List ℕ
-own u (some w) = w
-own u none = u ∷ []
+own u (Some w) = w
+own u None = u ∷ []
 
-module _ (book : ℕ → Option (List ℕ)) (uppercase : (b : ℕ) → is_upper b ≡ false → book b ≡ none) where
+module _ (book : ℕ → Option (List ℕ)) (uppercase : (b : ℕ) → is_upper b ≡ false → book b ≡ None) where
   pub word_self : (b : ℕ) → upper b ≡ b → is_upper b ≡ false → word_of book b ≡ b ∷ []
   unfolding word_of
   word_self b k e = rw (uppercase b e, k, uppercase b e)
@@ -112,8 +112,8 @@ module _ (book : ℕ → Option (List ℕ)) (uppercase : (b : ℕ) → is_upper 
   word_big u low high = go (book u) refl
     where
       go : (o : Option (List ℕ)) → book u ≡ o → by_book book u o ≡ own u o
-      go (some w) e = refl
-      go none e = rw (upper_big u low high, e)
+      go (Some w) e = refl
+      go None e = rw (upper_big u low high, e)
 
   word_small : (u : ℕ) → 65 ≤ u → u ≤ 90 → word_of book (u + 32) ≡ reversed_or_self (u + 32) (book u)
   unfolding word_of
@@ -126,12 +126,12 @@ module _ (book : ℕ → Option (List ℕ)) (uppercase : (b : ℕ) → is_upper 
   word_mirrored b = go (byte b)
     where
       along : (u : ℕ) → 65 ≤ u → u ≤ 90 → (o : Option (List ℕ)) → reversed_or_self (u + 32) o ≡ reversed (own u o)
-      along u l h (some w) = refl
-      along u l h none = ap (λ c. c ∷ []) (sym (mirrored_big u l h))
+      along u l h (Some w) = refl
+      along u l h None = ap (λ c. c ∷ []) (sym (mirrored_big u l h))
 
       back : (u : ℕ) → 65 ≤ u → u ≤ 90 → (o : Option (List ℕ)) → own u o ≡ reversed (reversed_or_self (u + 32) o)
-      back u l h (some w) = sym (reversed_reversed w)
-      back u l h none = ap (λ c. c ∷ []) (sym (mirrored_small u l h))
+      back u l h (Some w) = sym (reversed_reversed w)
+      back u l h None = ap (λ c. c ∷ []) (sym (mirrored_small u l h))
 
       go : {b : ℕ} → Byte b → word_of book (mirrored b) ≡ reversed (word_of book b)
       go plus = rw (word_self 43 refl refl, word_self 45 refl refl)

@@ -9,8 +9,8 @@ use lib.Dec.{leb, eqb}
 use lib.ListN.{length, get_or, take, drop, length-drop, drop_of_length-le}
 use lib.Seq.{take-suc, take_all, length-take-le}
 use borrow.Author.Tests.{le-leb, lt-leb}
+use Rattle.std.specs.Prelude.{Some, None, Option}
 use Rattle.grammar.specs.declared.lines.Lines.{Lines}
-use Rattle.grammar.specs.declared.scan.Shape.{Shape}
 use Rattle.grammar.specs.declared.scan.Scanner.{Scanner}
 use Rattle.grammar.specs.Texts.{Row, prefixed, rows_of, shaped, Line, line_of, lines_of}
 use Rattle.grammar.specs.Tests.{first, bad_shape}
@@ -115,8 +115,8 @@ module _ {text : List ℕ} {s : Scanner} (so_far : Scanning text s) where
     pub scan_more : at < length text → 0 < length t
     scan_more h = rw (e, length-drop) (omega arith)
 
-    module _ (not_eight : ls.count ≡ 8 → ⊥) {shape : Shape} (f : FirstRow t shape) where
-      pub scan_other : shape ≡ Shape.Other → record { lines = ls; fault = ls.count + 1 } ≡ scan_of text
+    module _ (not_eight : ls.count ≡ 8 → ⊥) {shape : Option (ℕ × ℕ)} (f : FirstRow t shape) where
+      pub scan_other : shape ≡ None → record { lines = ls; fault = ls.count + 1 } ≡ scan_of text
       scan_other g =
           let m : Misshapen t = subst (FirstRow t) g f in
           let here : rows_of (drop at text) ≡ m.row ∷ m.rest = rw (← e) m.rows in
@@ -124,7 +124,7 @@ module _ {text : List ℕ} {s : Scanner} (so_far : Scanning text s) where
           faulty here (shape_here (take ls.count rs) m.row false (omega (arith, scan_few not_eight)) m.bad) refl
 
       -- the next row is a line
-      module _ {k n : ℕ} (g : shape ≡ Shape.Line k n) where
+      module _ {k n : ℕ} (g : shape ≡ Some (k, n)) where
         line_here : Cut (drop at text) k n
         line_here = subst (λ t. Cut t k n) e (subst (FirstRow t) g f)
 

@@ -7,11 +7,10 @@ use native.Mathlib.Omega.{arith}
 use borrow.Author.Tests.{ne_eqb, eqb-true}
 use lib.Dec.{T, eqb, ltb}
 use lib.ListN.{length}
+use Rattle.std.specs.Prelude.{Option, Some, None}
 use Rattle.whole.proofs.Bools.{both_left, both_right, both}
 use Rattle.whole.proofs.Claims.{implies, apply}
 use Rattle.turtle.specs.declared.letter.Stroke.{Stroke}
-use Rattle.turtle.specs.declared.letter.Flavor.{Flavor}
-use Rattle.turtle.specs.declared.letter.Letter.{Letter}
 use Rattle.turtle.specs.Letters.{toggled, Row, letters, lookup, stroke_of}
 use Rattle.turtle.specs.Walk.{Sym, left, right, letter, drawn, symbol_of, symbols_of}
 use Rattle.turtle.specs.Inside.Sizes.{SmallStroke}
@@ -56,10 +55,10 @@ module _ (g : Grammar) (P : Stroke → Type 0) where
   every_stroke faced own (suc r) m b = rw (drawn_suc g r m) (every_word r 0 (g.rule m) (every_stroke faced own r) (faced m b))
 
 -- ---- a text of bytes: what holds of what each of its bytes draws
-module _ (P : Stroke → Type 0) (b : ℕ) (drawn_by : (s : Stroke) → Letter.Draws s ≡ stroke_of b → P s) where
-  every_drawn : (l : Letter) → l ≡ stroke_of b → Every P (drawn l)
-  every_drawn (Letter.Draws s) e = (drawn_by s e, tt)
-  every_drawn Letter.NoDraw e = tt
+module _ (P : Stroke → Type 0) (b : ℕ) (drawn_by : (s : Stroke) → Some s ≡ stroke_of b → P s) where
+  every_drawn : (l : Option Stroke) → l ≡ stroke_of b → Every P (drawn l)
+  every_drawn (Some s) e = (drawn_by s e, tt)
+  every_drawn None e = tt
 
   every_symbol : Every P (symbol_of b)
   unfolding symbol_of
@@ -76,9 +75,9 @@ strokes_small [] = tt
 strokes_small (b ∷ w) = every_append SmallStroke (symbol_of b) (symbols_of w) (every_symbol SmallStroke b (λ s. stroke_small b)) (strokes_small w)
 
 -- ---- a stroke that has a flavor: E e S s D d T t
-abbrev pub is_flavor : Flavor → Bool
-is_flavor (Flavor.Of f) = ltb f 4
-is_flavor Flavor.None = false
+abbrev pub is_flavor : Option ℕ → Bool
+is_flavor (Some f) = ltb f 4
+is_flavor None = false
 
 abbrev pub Flavored : Stroke → Type 0
 Flavored s = T (is_flavor s.flavor)
@@ -90,18 +89,18 @@ abbrev plain_rows : List Row → Bool
 plain_rows [] = true
 plain_rows (l ∷ ls) = implies (plain_byte l.byte) (is_flavor l.stroke.flavor) && plain_rows ls
 
-plain_found : (ls : List Row) (b : ℕ) {s : Stroke} → T (plain_rows ls) → T (plain_byte b) → Letter.Draws s ≡ lookup ls b → Flavored s
+plain_found : (ls : List Row) (b : ℕ) {s : Stroke} → T (plain_rows ls) → T (plain_byte b) → Some s ≡ lookup ls b → Flavored s
 plain_found [] b t k e = let z : ◌≡◌ {A = ℕ} 0 1 = cc in absurd (omega arith)
 plain_found (l ∷ ls) b {s} t k e = go (eqb l.byte b) refl e (plain_found ls b (both_right (implies (plain_byte l.byte) (is_flavor l.stroke.flavor)) (plain_rows ls) t) k)
   where
-    go : (u : Bool) → eqb l.byte b ≡ u → Letter.Draws s ≡ cond u (Letter.Draws l.stroke) (lookup ls b) → (Letter.Draws s ≡ lookup ls b → Flavored s) → Flavored s
+    go : (u : Bool) → eqb l.byte b ≡ u → Some s ≡ cond u (Some l.stroke) (lookup ls b) → (Some s ≡ lookup ls b → Flavored s) → Flavored s
     go true q e rest =
         let same : l.stroke ≡ s = cc in
         let here : T (plain_byte l.byte) = subst (λ c. T (plain_byte c)) (sym (eqb-true l.byte b q)) k in
         subst Flavored same (apply (plain_byte l.byte) (is_flavor l.stroke.flavor) (both_left (implies (plain_byte l.byte) (is_flavor l.stroke.flavor)) (plain_rows ls) t) here)
     go false q e rest = rest e
 
-plain_stroke : (b : ℕ) {s : Stroke} → T (plain_byte b) → Letter.Draws s ≡ stroke_of b → Flavored s
+plain_stroke : (b : ℕ) {s : Stroke} → T (plain_byte b) → Some s ≡ stroke_of b → Flavored s
 unfolding toggled letters stroke_of upper implies
 plain_stroke b k e = plain_found letters b tt k e
 

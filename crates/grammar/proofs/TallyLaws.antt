@@ -1,34 +1,35 @@
 -- What the bytes of a word come to, one byte after the other, in the form of what the code has in hand.
 use mathlib.Core.Path.{◌≡◌, refl, sym, ap, ◌∙◌, subst}
-use mathlib.Core.Bool.{Bool, true, false, not, ◌&&◌, ◌||◌, cond, and_assoc, and-true, and-false}
-use mathlib.Core.List.{List, [], ◌∷◌, ◌++◌, append-nil}
+use mathlib.Core.Logic.{◌⊎◌, ⊎_elim}
+use mathlib.Core.Bool.{Bool, true, false, ◌&&◌, ◌||◌, cond, and_assoc, and-true, and-false}
+use mathlib.Core.List.{List, [], ◌∷◌, ◌++◌, append-nil, append_assoc}
 use Prim.Native.Nat.{ℕ, zero, suc, ◌+◌, ◌-◌, ◌%◌, ◌≤◌, ◌<◌, min}
+use native.Mathlib.Nat.{eq-or-lt_of_le}
 use native.Mathlib.Numerals.{add-one}
 use native.Mathlib.Omega.{arith}
 use lib.Dec.{leb, eqb, leb→le}
-use lib.ListN.{length, get_or, take}
-use lib.Seq.{take-suc, take_all}
-use borrow.Author.Tests.{eq-eqb, ne_eqb, not-true, not-false}
+use lib.ListN.{length, get_or, take, drop}
+use lib.Seq.{take-suc, take_all, drop-cons}
+use borrow.Author.Tests.{ne_eqb}
+use Rattle.std.specs.Prelude.{None}
+use Rattle.std.specs.List.{list_any}
 use Rattle.whole.proofs.Bools.{both_left, from_true}
-use Rattle.turtle.specs.Letters.{letters as rows, stroke_of}
+use Rattle.turtle.specs.Letters.{toggled, letters as rows, stroke_of}
+use Rattle.std.proofs.lemmas.Fn.{FoldsTo-push}
 use Rattle.turtle.specs.Walk.{Sym, left, right, letter, symbol_of, symbols_of}
-use Rattle.turtle.specs.declared.letter.Letter.{Letter}
-use Rattle.turtle.proofs.SymbolLaws.{symbols_append}
 use Rattle.turtle.proofs.LetterLaws.{no_letter}
 use Rattle.grammar.specs.declared.tally.Kind.{Kind}
 use Rattle.grammar.specs.declared.lines.Lines.{Lines}
 use Rattle.grammar.specs.declared.tally.Tally.{Tally}
-use Rattle.grammar.specs.Words.{is_lower, upper, mirrored}
+use Rattle.grammar.specs.Words.{is_lower, upper}
 use Rattle.grammar.specs.Texts.{Line}
 use Rattle.grammar.specs.Curves.{is_named, rule_symbol, rule_symbols, turned, letter_count, upright}
 use Rattle.grammar.specs.Tests.{lawful_rule, is_turn, is_stroke, lawful_draw}
 use Rattle.grammar.specs.Inside.Places.{lines_from, lines_by}
 use Rattle.grammar.specs.Scans.{has_name}
-use Rattle.grammar.specs.Inside.Tallies.{Tallied, still_upright, Means, leftward, rightward, lettered, strayed, nothing, no_tally, tally_with, RuleByte, DrawByte, RuleWord, DrawWord, directed}
+use Rattle.grammar.specs.Inside.Tallies.{Tallied, Means, leftward, rightward, lettered, strayed, nothing, no_tally, tally_with, RuleByte, DrawByte, RuleWord, DrawWord, Counts}
 use Rattle.grammar.proofs.TurnLaws.{turned_append}
 use Rattle.grammar.proofs.GrammarLaws.{letters_append}
-use Rattle.grammar.proofs.PassLaws.{children_append}
-use Rattle.grammar.proofs.WordByteLaws.{length_reversed, reversed_at}
 
 -- ---- the lines' letters, one by one
 pub named_by : (text : List ℕ) (ls : Lines) (b k i : ℕ) → is_named (lines_from text ls k i) b ≡ has_name ls.name b k i
@@ -40,23 +41,14 @@ pub listed_by : (text : List ℕ) (ls : Lines) (b : ℕ) {r : Bool} → r ≡ ha
 unfolding lines_by
 listed_by text ls b e = e ∙ sym (named_by text ls b (min ls.count 8) 0)
 
-module _ (names : List ℕ) (b n i : ℕ) where
-  abbrev pub named_at : Bool
-  named_at = has_name names b (n - i) i
+-- k letters from the i-th on, as one list
+names_any : (names : List ℕ) (b k i : ℕ) → i + k ≤ length names → has_name names b k i ≡ list_any (λ y. eqb y b) (take k (drop i names))
+unfolding has_name
+names_any names b zero i h = refl
+names_any names b (suc k) i h = rw (drop-cons names i 0 (omega arith)) (ap (λ r. eqb (get_or names i 0) b || r) (names_any names b k (suc i) (omega arith)))
 
-  name_opened : i < n → named_at ≡ (eqb (get_or names i 0) b || has_name names b (n - suc i) (suc i))
-  unfolding has_name
-  name_opened h = let more : n - i ≡ suc (n - suc i) = omega arith in rw more refl
-
-  pub name_here : i < n → get_or names i 0 ≡ b → named_at ≡ true
-  name_here h e = name_opened h ∙ (rw (eq-eqb (get_or names i 0) b e) refl)
-
-  pub name_next : i < n → (get_or names i 0 ≡ b → ⊥) → named_at ≡ has_name names b (n - (i + 1)) (i + 1)
-  name_next h e = name_opened h ∙ (rw (ne_eqb (get_or names i 0) b e, add-one) refl)
-
-  pub name_none : n ≤ i → named_at ≡ false
-  unfolding has_name
-  name_none h = let z : n - i ≡ 0 = omega arith in rw z refl
+pub named_any : (names : List ℕ) (b n : ℕ) → n ≤ length names → {r : Bool} → r ≡ list_any (λ y. eqb y b) (take n names) → r ≡ has_name names b n 0
+named_any names b n h e = e ∙ sym (names_any names b n 0 (omega arith))
 
 -- ---- a byte of a rule
 module _ (ls : List Line) (b : ℕ) where
@@ -90,22 +82,46 @@ no_upper b u e f = ne_eqb (cond (is_lower b) (b - 32) b) u (go (is_lower b) refl
     go true l g = let h : 97 ≤ b = leb→le 97 b (both_left (leb 97 b) (leb b 122) (from_true l)) in f (omega arith)
     go false l g = e g
 
--- none of the ten letters, in the form of a match's rest
-abbrev without : Type 0 → ℕ → ℕ → Type 0
-without A b k = A × (b ≡ k → ⊥)
+pair : {kind : Kind} (k : ℕ) {b : ℕ} → k ≤ b → b < k + 2 → DrawByte k kind → DrawByte (suc k) kind → DrawByte b kind
+pair k l h p q = ⊎_elim (λ e. draw_at (sym e) p) (λ m. let e : suc k ≡ _ = omega arith in draw_at (sym e) q) (eq-or-lt_of_le l)
 
-abbrev pub NoLetter : ℕ → Type 0
-NoLetter b = without (without (without (without (without (without (without (without (without (without (Unit {0}) b 69) b 101) b 83) b 115) b 85) b 117) b 68) b 100) b 84) b 116
+module _ {b : ℕ} where
+  pub draw_left : b ≡ 43 → DrawByte b Kind.Left
+  unfolding symbol_of
+  draw_left e = draw_at e leftward
 
-pub draw_nothing : {b : ℕ} → (b ≡ 43 → ⊥) → (b ≡ 45 → ⊥) → NoLetter b → DrawByte b Kind.Nothing
-unfolding symbol_of rows
-draw_nothing {b} p m r =
-    let e : stroke_of b ≡ Letter.NoDraw = sym (no_letter b r) in
-    let big_e = no_upper b 69 r.0.0.0.0.0.0.0.0.0.1 r.0.0.0.0.0.0.0.0.1 in
-    let big_s = no_upper b 83 r.0.0.0.0.0.0.0.1 r.0.0.0.0.0.0.1 in
-    let big_d = no_upper b 68 r.0.0.0.1 r.0.0.1 in
-    let big_t = no_upper b 84 r.0.1 r.1 in
-    rw (ne_eqb b 43 p, ne_eqb b 45 m, e, big_e, big_s, big_d, big_t) nothing
+  pub draw_right : b ≡ 45 → DrawByte b Kind.Right
+  unfolding symbol_of
+  draw_right e = draw_at e rightward
+
+  pub draw_stray : (b ≡ 85) ⊎ (b ≡ 117) → DrawByte b Kind.Stray
+  unfolding upper toggled rows stroke_of symbol_of
+  draw_stray e = ⊎_elim (λ e. draw_at e strayed) (λ e. draw_at e strayed) e
+
+  -- D and E, S and T, each pair in either case
+  pub draw_de : 68 ≤ b → b < 70 → DrawByte b Kind.Letter
+  unfolding upper toggled rows stroke_of symbol_of
+  draw_de l h = pair 68 l h lettered lettered
+
+  pub draw_st : 83 ≤ b → b < 85 → DrawByte b Kind.Letter
+  unfolding upper toggled rows stroke_of symbol_of
+  draw_st l h = pair 83 l h lettered lettered
+
+  pub draw_lower_de : 100 ≤ b → b < 102 → DrawByte b Kind.Letter
+  unfolding upper toggled rows stroke_of symbol_of
+  draw_lower_de l h = pair 100 l h lettered lettered
+
+  pub draw_lower_st : 115 ≤ b → b < 117 → DrawByte b Kind.Letter
+  unfolding upper toggled rows stroke_of symbol_of
+  draw_lower_st l h = pair 115 l h lettered lettered
+
+  pub draw_nothing : (b ≡ 43 → ⊥) → (b ≡ 45 → ⊥) → (b ≡ 69 → ⊥) → (b ≡ 101 → ⊥) → (b ≡ 83 → ⊥) → (b ≡ 115 → ⊥) → (b ≡ 85 → ⊥) → (b ≡ 117 → ⊥) → (b ≡ 68 → ⊥) → (b ≡ 100 → ⊥) → (b ≡ 84 → ⊥) → (b ≡ 116 → ⊥) → DrawByte b Kind.Nothing
+  unfolding symbol_of rows
+  draw_nothing p m big_e e big_s s big_u u big_d d big_t t =
+      let none : stroke_of b ≡ None = sym (no_letter b ((((((((((tt, big_e), e), big_s), s), big_u), u), big_d), d), big_t), t)) in
+      rw (ne_eqb b 43 p, ne_eqb b 45 m, none, no_upper b 69 big_e e, no_upper b 83 big_s s, no_upper b 68 big_d d, no_upper b 84 big_t t) nothing
+
+pub ruleset drawing = (draw_left, draw_right, draw_stray, draw_de, draw_st, draw_lower_de, draw_lower_st, draw_nothing)
 
 -- ---- one byte more
 upright_append : {A : Type 0} (h : ℕ) (v w : List (Sym A)) → upright h (v ++ w) ≡ (upright h v && upright (turned h v) w)
@@ -181,68 +197,32 @@ modest_more Kind.Stray m e = rw e record { few = omega (arith, m.few); small = m
 modest_more Kind.Nothing m e = rw e record { few = omega (arith, m.few); small = m.small }
 
 -- ---- whole words
-lawful_rule_append : (ls : List Line) (v : List ℕ) (b : ℕ) → lawful_rule ls (v ++ (b ∷ [])) ≡ (lawful_rule ls v && (eqb b 43 || eqb b 45 || is_named ls (upper b)))
-lawful_rule_append ls [] b = and-true (eqb b 43 || eqb b 45 || is_named ls (upper b))
-lawful_rule_append ls (c ∷ v) b = rw (lawful_rule_append ls v b) (sym (and_assoc (eqb c 43 || eqb c 45 || is_named ls (upper c)) (lawful_rule ls v) (eqb b 43 || eqb b 45 || is_named ls (upper b))))
+-- one byte more, and all of them
+module _ (is : ℕ → Kind → Type 0) (w : List ℕ) (t s : Tally) (i : ℕ) (so_far : Counts is t (take i w) s) where
+  pub counts_more : i < length w → {k : Kind} {u : Tally} → is (get_or w i 0) k → u ≡ tally_with k s → Counts is t (take (i + 1) w) u
+  counts_more h {k} {u} m e = rw (add-one, take-suc w i 0) (FoldsTo-push _ t (take i w) s (get_or w i 0) u so_far (k, m, e))
 
-lawful_draw_append : (v : List ℕ) (b : ℕ) → lawful_draw (v ++ (b ∷ [])) ≡ (lawful_draw v && (is_turn b || is_stroke b))
-lawful_draw_append [] b = and-true (is_turn b || is_stroke b)
-lawful_draw_append (c ∷ v) b = rw (lawful_draw_append v b) (sym (and_assoc (is_turn c || is_stroke c) (lawful_draw v) (is_turn b || is_stroke b)))
+  pub counts_all : length w ≤ i → Counts is t w s
+  counts_all h = subst (λ v. Counts is t v s) (take_all i w h) so_far
 
-module _ (w : List ℕ) {t : Tally} (i : ℕ) where
-  module _ {s : Tally} {k : Kind} (h : i < length w) (s_is : s ≡ tally_with k t) where
-    pub rule_next : (ls : List Line) → RuleWord ls (take i w) t → {b : ℕ} → b ≡ get_or w i 0 → RuleByte ls b k → RuleWord ls (take (i + 1) w) s
-    unfolding rule_symbols
-    rule_next ls so_far e byte =
-        rw (s_is, add-one, take-suc w i 0, children_append, append-nil, lawful_rule_append) (tallied_more so_far (subst (λ b. RuleByte ls b k) e byte))
+-- the tally of a word of a kind, from what its bytes mean
+module _ {A : Type 0} (sym_of : ℕ → List (Sym A)) (may : ℕ → Bool) (syms : List ℕ → List (Sym A)) (lawful : List ℕ → Bool) (no_syms : syms [] ≡ []) (more_syms : (b : ℕ) (w : List ℕ) → syms (b ∷ w) ≡ sym_of b ++ syms w)
+    (no_bytes : lawful [] ≡ true) (more_bytes : (b : ℕ) (w : List ℕ) → lawful (b ∷ w) ≡ (may b && lawful w)) (is : ℕ → Kind → Type 0) (means : (b : ℕ) (k : Kind) → is b k → Means k (sym_of b) (may b)) where
+  counted : (w : List ℕ) (v : List (Sym A)) (ok : Bool) (t s : Tally) → Tallied v ok t → Counts is t w s → Tallied (v ++ syms w) (ok && lawful w) s
+  counted [] v ok t s h c = rw (no_syms, no_bytes, append-nil, and-true, ← c) h
+  counted (b ∷ w) v ok t s h (u, (k, m, e), c) =
+      rw (more_syms b w, more_bytes b w, ← append_assoc, ← and_assoc ok (may b) (lawful w)) (counted w (v ++ sym_of b) (ok && may b) u s (rw e (tallied_more h (means b k m))) c)
 
-    pub draw_next : DrawWord (take i w) t → DrawByte (get_or w i 0) k → DrawWord (take (i + 1) w) s
-    unfolding symbols_of
-    draw_next so_far byte =
-        rw (s_is, add-one, take-suc w i 0, symbols_append, append-nil, lawful_draw_append) (tallied_more so_far byte)
+  word_tallied : (w : List ℕ) (s : Tally) → Counts is no_tally w s → Tallied (syms w) (lawful w) s
+  word_tallied w s c = counted w [] true no_tally s tallied_none c
 
-pub rule_none : (ls : List Line) (w : List ℕ) {t : Tally} → t ≡ no_tally → RuleWord ls (take 0 w) t
+pub rule_tallied : (ls : List Line) (is : ℕ → Kind → Type 0) → ((b : ℕ) (k : Kind) → is b k → RuleByte ls b k) → (w : List ℕ) (s : Tally) → Counts is no_tally w s → RuleWord ls w s
 unfolding rule_symbols
-rule_none ls w e = rw e tallied_none
+rule_tallied ls = word_tallied (rule_symbol ls) (λ b. eqb b 43 || eqb b 45 || is_named ls (upper b)) (rule_symbols ls) (lawful_rule ls) refl (λ b w. refl) refl (λ b w. refl)
 
-pub draw_none : (w : List ℕ) {t : Tally} → t ≡ no_tally → DrawWord (take 0 w) t
+pub draw_tallied : (is : ℕ → Kind → Type 0) → ((b : ℕ) (k : Kind) → is b k → DrawByte b k) → (w : List ℕ) (s : Tally) → Counts is no_tally w s → DrawWord w s
 unfolding symbols_of
-draw_none w e = rw e tallied_none
-
-pub rule_all : (ls : List Line) (w : List ℕ) {t : Tally} (i : ℕ) → length w ≤ i → RuleWord ls (take i w) t → RuleWord ls w t
-rule_all ls w {t} i h r = subst (λ v. RuleWord ls v t) (take_all i w h) r
-
-pub draw_all : (w : List ℕ) {t : Tally} (i : ℕ) → length w ≤ i → DrawWord (take i w) t → DrawWord w t
-draw_all w {t} i h r = subst (λ v. DrawWord v t) (take_all i w h) r
-
--- ---- a word or its reverse
-pub length_directed : (back : Bool) (w : List ℕ) → length (directed back w) ≡ length w
-length_directed true w = length_reversed w
-length_directed false w = refl
-
-pub byte_back : {back : Bool} {b : ℕ} (w : List ℕ) (i : ℕ) → i < length w → back ≡ true → b ≡ mirrored (get_or w (length w - 1 - i) 0) → b ≡ get_or (directed back w) i 0
-byte_back w i h t e = rw t (e ∙ sym (reversed_at w i h))
-
-pub byte_along : {back : Bool} (w : List ℕ) (i : ℕ) → back ≡ false → get_or w i 0 ≡ get_or (directed back w) i 0
-byte_along w i t = rw t refl
-
--- ---- still upright
-module _ (t : Tally) where
-  pub fallen : not t.upright ≡ true → false ≡ still_upright t
-  fallen e = sym (rw (not-true t.upright e) refl)
-
-  module _ (e : not t.upright ≡ false) where
-    pub at_zero : t.heading ≡ 0 → true ≡ still_upright t
-    at_zero h = sym (rw (not-false t.upright e, eq-eqb t.heading 0 h) refl)
-
-    pub not_zero : (t.heading ≡ 0 → ⊥) → eqb t.heading 3 ≡ still_upright t
-    not_zero h = sym (rw (not-false t.upright e, ne_eqb t.heading 0 h) refl)
-
-pub inside_directed : (back : Bool) (w : List ℕ) {i : ℕ} → i < length w → i < length (directed back w)
-inside_directed back w h = rw (length_directed back w) h
-
-pub past_directed : (back : Bool) (w : List ℕ) {i : ℕ} → length w ≤ i → length (directed back w) ≤ i
-past_directed back w h = rw (length_directed back w) h
+draw_tallied = word_tallied symbol_of (λ b. is_turn b || is_stroke b) symbols_of lawful_draw refl (λ b w. refl) refl (λ b w. refl)
 
 pub listed : (names : List ℕ) (b : ℕ) {u n m : ℕ} {r : Bool} → r ≡ has_name names u n 0 → u ≡ upper b → n ≡ m → r ≡ has_name names (upper b) m 0
 listed names b e f g = e ∙ (rw (f, g) refl)

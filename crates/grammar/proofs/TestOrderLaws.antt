@@ -5,16 +5,22 @@ use mathlib.Core.List.{List, [], ◌∷◌}
 use Prim.Native.Nat.{ℕ, zero, suc, ◌+◌, ◌≤◌, ◌<◌, min}
 use native.Mathlib.Nat.{zero-add}
 use native.Mathlib.Omega.{arith}
-use lib.ListN.{length, get_or, take}
+use native.Mathlib.Numerals.{add-one}
+use lib.ListN.{length, get_or, take, drop, drop_of_length-le}
+use lib.Seq.{drop-cons}
+use Rattle.std.proofs.Common.{Option, Some, None}
+use Rattle.std.specs.Option.{MatchOption}
+use Rattle.triple.specs.declared.refusal.Refusal.{Refusal}
+use Rattle.triple.specs.Refusals.{number_of}
 use Rattle.grammar.specs.declared.lines.Lines.{Lines}
 use Rattle.grammar.specs.declared.scan.Scan.{Scan}
 use Rattle.grammar.specs.declared.tests.Test.{Test}
 use Rattle.grammar.specs.Texts.{rows_of, Line, lines_of}
-use Rattle.grammar.specs.Tests.{Verdict, fine, fault, first, fault_at, bad_shape, bad_motif, bad_rule, bad_count, bad_heading, bad_draw, bad_turns, bad_net, line_tests, some_rows, text_tests}
+use Rattle.grammar.specs.Tests.{Verdict, fine, fault, first, fault_at, bad_shape, line_tests, some_rows, text_tests}
 use Rattle.grammar.specs.Inside.Places.{line_at, lines_from, lines_by, Sized}
 use Rattle.grammar.specs.Inside.LineTests.{test_of}
 use Rattle.grammar.specs.Scans.{scan_of}
-use Rattle.grammar.proofs.FirstLaws.{first_at, first_next, first_here, first_none}
+use Rattle.grammar.proofs.FirstLaws.{first_at, first_passed, first_here, first_none}
 use Rattle.grammar.proofs.PlaceLaws.{length_lines, Places, places_lines, scan_places}
 use Rattle.grammar.proofs.ScanLaws.{some_row}
 
@@ -36,35 +42,34 @@ unfolding lines_by
 lines_before text ls i h = take_lines text ls i (min ls.count 8) 0 (omega arith)
 
 -- ---- the first line at fault
-module _ (text : List ℕ) (ls : Lines) (test : Test) {rows : ℕ} (rows_is : rows ≡ min ls.count 8) (i : ℕ) where
+module _ (text : List ℕ) (ls : Lines) (test : Test) where
   abbrev lines : List Line
   lines = lines_by text ls
 
-  abbrev bad : List Line → Line → Bool
-  bad = test_of lines test
+  -- what the test says of line i
+  abbrev bad_at : ℕ → Bool
+  bad_at i = test_of lines test (take i lines) (line_at text ls i)
 
-  -- the lines before the i-th are not at fault
-  abbrev pub Seeking : Type 0
-  Seeking = first_at bad lines i ≡ first bad lines
+  -- the first of them that is at fault, as a search finds it
+  abbrev pub Found : ℕ → Option ℕ → Type 0
+  Found rows r = MatchOption r ((k : ℕ) → 0 ≤ k → k < rows → bad_at k ≡ false) (λ i. (0 ≤ i) × (i < rows) × (bad_at i ≡ true) × ((k : ℕ) → 0 ≤ k → k < i → bad_at k ≡ false))
 
-  count_is : length lines ≡ rows
-  unfolding lines_by
-  count_is = length_lines text ls (min ls.count 8) 0 ∙ sym rows_is
+  module _ {rows : ℕ} (rows_is : rows ≡ min ls.count 8) where
+    count_is : length lines ≡ rows
+    unfolding lines_by
+    count_is = length_lines text ls (min ls.count 8) 0 ∙ sym rows_is
 
-  module _ (so_far : Seeking) where
-    pub seek_none : rows ≤ i → 0 ≡ first bad lines
-    seek_none h = sym (first_none bad lines i (omega (arith, count_is))) ∙ so_far
+    here : (i : ℕ) → i < rows → get_or lines i (line_at text ls 0) ≡ line_at text ls i
+    unfolding lines_by
+    here i h = line_of text ls i (min ls.count 8) 0 (line_at text ls 0) (omega arith) ∙ ap (line_at text ls) (zero-add i)
 
-    module _ (h : i < rows) {r : Bool} (e : r ≡ bad (take i lines) (line_at text ls i)) where
-      here : get_or lines i (line_at text ls i) ≡ line_at text ls i
-      unfolding lines_by
-      here = line_of text ls i (min ls.count 8) 0 (line_at text ls i) (omega arith) ∙ ap (line_at text ls) (zero-add i)
+    passed : (k : ℕ) → k ≤ rows → ((j : ℕ) → 0 ≤ j → j < k → bad_at j ≡ false) → first (test_of lines test) lines ≡ first_at (test_of lines test) lines k
+    passed k h f = first_passed (test_of lines test) lines (line_at text ls 0) k (omega (arith, count_is)) (λ j g. rw (here j (omega arith)) (f j (omega arith) g))
 
-      pub seek_here : r ≡ true → i + 1 ≡ first bad lines
-      seek_here t = sym (first_here bad lines i (line_at text ls i) (omega (arith, count_is)) (rw here (sym e ∙ t))) ∙ so_far
-
-      pub seek_next : r ≡ false → first_at bad lines (i + 1) ≡ first bad lines
-      seek_next t = sym (first_next bad lines i (line_at text ls i) (omega (arith, count_is)) (rw here (sym e ∙ t))) ∙ so_far
+    pub first_found : (r : Option ℕ) → Found rows r → MatchOption r (first (test_of lines test) lines ≡ 0) (λ i. (i < 8) × (first (test_of lines test) lines ≡ i + 1))
+    first_found (Some i) f =
+        (omega (arith, f.1), passed i (omega (arith, f.1)) f.3 ∙ first_here (test_of lines test) lines i (line_at text ls 0) (omega (arith, count_is, f.1)) (rw (here i f.1) f.2))
+    first_found None f = passed rows (omega arith) f ∙ first_none (test_of lines test) lines rows (omega (arith, count_is))
 
 -- ---- the tests' order
 module _ (n : ℕ) {k first : ℕ} (e : k ≡ first) (next : Verdict) where
@@ -78,65 +83,20 @@ module _ (n : ℕ) {k first : ℕ} (e : k ≡ first) (next : Verdict) where
   pub passed_by : {v : Verdict} → k ≡ 0 → v ≡ next → v ≡ fault_at n first next
   passed_by z f = f ∙ (rw (sym e ∙ z) refl)
 
--- what the tests after each one say
-abbrev from_net : List Line → Verdict
-from_net ls = fault_at 19 (first (λ _. bad_net ls) ls) fine
+-- what is left to ask, test after test, each with its refusal
+abbrev pub asked : List Line → List (Test × Refusal) → Verdict
+asked ls [] = fine
+asked ls ((t, e) ∷ ts) = fault_at (number_of e) (first (test_of ls t) ls) (asked ls ts)
 
-abbrev from_turns : List Line → Verdict
-from_turns ls = fault_at 18 (first (λ _. bad_turns ls) ls) (from_net ls)
+module _ (ls : List Line) (tests : List (Test × Refusal)) (k : ℕ) (d : Test × Refusal) (h : k < length tests) where
+  pub asked_fault : (n : ℕ) → first (test_of ls (get_or tests k d).0) ls ≡ n + 1 → fault (number_of (get_or tests k d).1) (n + 1) ≡ asked ls (drop k tests)
+  asked_fault n e = rw (drop-cons tests k d, e, add-one) refl
 
-abbrev from_draw : List Line → Verdict
-from_draw ls = fault_at 17 (first (λ _. bad_draw) ls) (from_turns ls)
+  pub asked_next : first (test_of ls (get_or tests k d).0) ls ≡ 0 → asked ls (drop (k + 1) tests) ≡ asked ls (drop k tests)
+  asked_next e = rw (drop-cons tests k d, add-one, e) refl
 
-abbrev from_heading : List Line → Verdict
-from_heading ls = fault_at 16 (first (λ _. bad_heading ls) ls) (from_draw ls)
-
-abbrev from_count : List Line → Verdict
-from_count ls = fault_at 15 (first (λ _. bad_count ls) ls) (from_heading ls)
-
-abbrev from_rule : List Line → Verdict
-from_rule ls = fault_at 14 (first (λ _. bad_rule ls) ls) (from_count ls)
-
--- the first test that finds a line at fault
-module _ (ls : List Line) where
-  module _ {motif : ℕ} (motif_is : motif ≡ first (bad_motif) ls) where
-    pub fault_motif : (motif ≡ 0 → ⊥) → fault 13 motif ≡ line_tests ls fine
-    unfolding line_tests
-    fault_motif h = stopped 13 motif_is (from_rule ls) h
-
-    module _ (motif_none : motif ≡ 0) {rule : ℕ} (rule_is : rule ≡ first (λ _. bad_rule ls) ls) where
-      pub fault_rule : (rule ≡ 0 → ⊥) → fault 14 rule ≡ line_tests ls fine
-      unfolding line_tests
-      fault_rule h = passed_by 13 motif_is (from_rule ls) motif_none (stopped 14 rule_is (from_count ls) h)
-
-      module _ (rule_none : rule ≡ 0) {count : ℕ} (count_is : count ≡ first (λ _. bad_count ls) ls) where
-        pub fault_count : (count ≡ 0 → ⊥) → fault 15 count ≡ line_tests ls fine
-        unfolding line_tests
-        fault_count h = passed_by 13 motif_is (from_rule ls) motif_none (passed_by 14 rule_is (from_count ls) rule_none (stopped 15 count_is (from_heading ls) h))
-
-        module _ (count_none : count ≡ 0) {heading : ℕ} (heading_is : heading ≡ first (λ _. bad_heading ls) ls) where
-          pub fault_heading : (heading ≡ 0 → ⊥) → fault 16 heading ≡ line_tests ls fine
-          unfolding line_tests
-          fault_heading h = passed_by 13 motif_is (from_rule ls) motif_none (passed_by 14 rule_is (from_count ls) rule_none (passed_by 15 count_is (from_heading ls) count_none (stopped 16 heading_is (from_draw ls) h)))
-
-          module _ (heading_none : heading ≡ 0) {draw : ℕ} (draw_is : draw ≡ first (λ _. bad_draw) ls) where
-            pub fault_draw : (draw ≡ 0 → ⊥) → fault 17 draw ≡ line_tests ls fine
-            unfolding line_tests
-            fault_draw h = passed_by 13 motif_is (from_rule ls) motif_none (passed_by 14 rule_is (from_count ls) rule_none (passed_by 15 count_is (from_heading ls) count_none (passed_by 16 heading_is (from_draw ls) heading_none (stopped 17 draw_is (from_turns ls) h))))
-
-            module _ (draw_none : draw ≡ 0) {turns : ℕ} (turns_is : turns ≡ first (λ _. bad_turns ls) ls) where
-              pub fault_turns : (turns ≡ 0 → ⊥) → fault 18 turns ≡ line_tests ls fine
-              unfolding line_tests
-              fault_turns h = passed_by 13 motif_is (from_rule ls) motif_none (passed_by 14 rule_is (from_count ls) rule_none (passed_by 15 count_is (from_heading ls) count_none (passed_by 16 heading_is (from_draw ls) heading_none (passed_by 17 draw_is (from_turns ls) draw_none (stopped 18 turns_is (from_net ls) h)))))
-
-              module _ (turns_none : turns ≡ 0) {net : ℕ} (net_is : net ≡ first (λ _. bad_net ls) ls) where
-                pub fault_net : (net ≡ 0 → ⊥) → fault 19 net ≡ line_tests ls fine
-                unfolding line_tests
-                fault_net h = passed_by 13 motif_is (from_rule ls) motif_none (passed_by 14 rule_is (from_count ls) rule_none (passed_by 15 count_is (from_heading ls) count_none (passed_by 16 heading_is (from_draw ls) heading_none (passed_by 17 draw_is (from_turns ls) draw_none (passed_by 18 turns_is (from_net ls) turns_none (stopped 19 net_is fine h))))))
-
-                pub fault_none : net ≡ 0 → fine ≡ line_tests ls fine
-                unfolding line_tests
-                fault_none net_none = passed_by 13 motif_is (from_rule ls) motif_none (passed_by 14 rule_is (from_count ls) rule_none (passed_by 15 count_is (from_heading ls) count_none (passed_by 16 heading_is (from_draw ls) heading_none (passed_by 17 draw_is (from_turns ls) draw_none (passed_by 18 turns_is (from_net ls) turns_none (passed_by 19 net_is fine net_none refl))))))
+pub asked_none : (ls : List Line) (tests : List (Test × Refusal)) (k : ℕ) → length tests ≤ k → fine ≡ asked ls (drop k tests)
+asked_none ls tests k h = rw (drop_of_length-le tests {i = k} h) refl
 
 -- ---- the text
 module _ (text : List ℕ) where
@@ -177,7 +137,5 @@ module _ (text : List ℕ) where
       unfolding text_tests
       text_lines h e =
           passed_by 12 fault_is (line_tests (lines_of text) fine) h (e ∙ ap (λ ls. line_tests ls fine) (scanned_lines h)) ∙ sym (rows_tested (line_tests (lines_of text) fine))
-
-pub ruleset order = (fault_motif, fault_rule, fault_count, fault_heading, fault_draw, fault_turns, fault_net, fault_none)
 
 pub ruleset scanned_text = (empty_text, scanned_sized, text_shape, text_lines)

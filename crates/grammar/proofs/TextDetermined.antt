@@ -2,26 +2,27 @@
 use mathlib.Core.Path.{◌≡◌, refl, sym, ap, ◌∙◌}
 use mathlib.Core.List.{List}
 use Prim.Native.Nat.{ℕ}
+use Rattle.std.specs.Prelude.{Result, Ok, Err}
 use Rattle.triple.proofs.Determined.{one_to_one, determined, refusal_of, numbered}
 use Rattle.grammar.specs.declared.scan.Scan.{Scan}
-use Rattle.grammar.specs.declared.tests.TextAnswer.{TextAnswer}
+use Rattle.grammar.specs.declared.tests.Fault.{Fault}
 use Rattle.grammar.specs.declared.tests.Reading.{Reading}
 use Rattle.grammar.specs.Scans.{scan_of}
 use Rattle.grammar.specs.Tests.{Verdict, fine, fault, text_tests}
 use Rattle.grammar.specs.TextAnswers.{said_text}
 
-abbrev answer_by : Verdict → TextAnswer
-answer_by fine = TextAnswer.Fine
-answer_by (fault n line) = TextAnswer.Fault (refusal_of n) line
+abbrev answer_by : Verdict → Result (Unit {0}) Fault
+answer_by fine = Ok tt
+answer_by (fault n line) = Err (record { refusal = refusal_of n; line = line })
 
-text_back : (a : TextAnswer) → answer_by (said_text a) ≡ a
-text_back TextAnswer.Fine = refl
-text_back (TextAnswer.Fault e line) = ap (λ f. TextAnswer.Fault f line) (numbered e)
+text_back : (a : Result (Unit {0}) Fault) → answer_by (said_text a) ≡ a
+text_back (Ok tt) = refl
+text_back (Err f) = ap (λ e. Err (record { refusal = e; line = f.line })) (numbered f.refusal)
 
-pub said_text_one_to_one : (a b : TextAnswer) → said_text a ≡ said_text b → a ≡ b
+pub said_text_one_to_one : (a b : Result (Unit {0}) Fault) → said_text a ≡ said_text b → a ≡ b
 said_text_one_to_one = one_to_one said_text answer_by text_back
 
-pub test_text_determined : (text : List ℕ) (a b : TextAnswer) → said_text a ≡ text_tests text fine → said_text b ≡ text_tests text fine → a ≡ b
+pub test_text_determined : (text : List ℕ) (a b : Result (Unit {0}) Fault) → said_text a ≡ text_tests text fine → said_text b ≡ text_tests text fine → a ≡ b
 test_text_determined text = determined said_text said_text_one_to_one
 
 pub scan_text_determined : (text : List ℕ) (a b : Scan) → a ≡ scan_of text → b ≡ scan_of text → a ≡ b

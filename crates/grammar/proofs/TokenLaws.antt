@@ -1,10 +1,10 @@
 -- The letters of the listed motifs, in either case, are the tokens: each stands at its token among the tokens' letters, and each token's letter is one of them.
+use Rattle.std.specs.Prelude.{None, Some}
 use mathlib.Core.Path.{◌≡◌, refl, sym, ◌∙◌, subst}
 use mathlib.Core.Bool.{Bool, true, false, ◌||◌, cond}
 use mathlib.Core.List.Memᴰ
 use mathlib.Core.List.{List, [], ◌∷◌, map, Memᴰ}
 use mathlib.Core.Logic.{◌⊎◌, inl, inr}
-use mathlib.Core.Option.{none, some}
 use Prim.Native.Nat.{ℕ, zero, suc, ◌+◌, ◌≤◌, ◌<◌}
 use native.Mathlib.Omega.{arith}
 use native.Mathlib.Decide.{dec_lt}
@@ -24,7 +24,7 @@ pub record Named (ls : List Line) (u : ℕ) : Type 0 where
   pub line : Line
   pub listed : Memᴰ line ls
   pub name : line.name ≡ u
-  pub book : (word : Line → List ℕ) → book_by word ls u ≡ some (word line)
+  pub book : (word : Line → List ℕ) → book_by word ls u ≡ Some (word line)
 
 pub named : (ls : List Line) (u : ℕ) → T (is_named ls u) → Named ls u
 named [] u t = absurd t
@@ -36,11 +36,11 @@ named (l ∷ ls) u t = go (eqb l.name u) refl t (named ls u)
         let n = below t in
         record { line = n.line; listed = Memᴰ.tail n.listed; name = n.name; book = λ word. rw e (n.book word) }
 
-unnamed : (ls : List Line) (b : ℕ) (word : Line → List ℕ) → (T (is_named ls b) → ⊥) → book_by word ls b ≡ none
+unnamed : (ls : List Line) (b : ℕ) (word : Line → List ℕ) → (T (is_named ls b) → ⊥) → book_by word ls b ≡ None
 unnamed [] b word n = refl
 unnamed (l ∷ ls) b word n = go (eqb l.name b) n (unnamed ls b word)
   where
-    go : (s : Bool) → (T (s || is_named ls b) → ⊥) → ((T (is_named ls b) → ⊥) → book_by word ls b ≡ none) → cond s (some (word l)) (book_by word ls b) ≡ none
+    go : (s : Bool) → (T (s || is_named ls b) → ⊥) → ((T (is_named ls b) → ⊥) → book_by word ls b ≡ None) → cond s (Some (word l)) (book_by word ls b) ≡ None
     go true n below = absurd (n tt)
     go false n below = below n
 
@@ -116,7 +116,7 @@ module _ (ls : List Line) (uppercase : (l : Line) → Memᴰ l ls → T (is_uppe
   other_name b e t = rw e at (name_upper b t)
 
   -- so the books have words for uppercase letters alone
-  pub no_word : (word : Line → List ℕ) (b : ℕ) → is_upper b ≡ false → book_by word ls b ≡ none
+  pub no_word : (word : Line → List ℕ) (b : ℕ) → is_upper b ≡ false → book_by word ls b ≡ None
   no_word word b e = unnamed ls b word (other_name b e)
 
   pub motif : (b : ℕ) → T (is_named ls (upper b)) → Motif ls b

@@ -1,11 +1,12 @@
 -- Each test of a line, 13 to 18, in the form of what the code has in hand: the motif's letter by its range, a word by its tally.
 use mathlib.Core.Path.{◌≡◌, refl, sym, ap, ◌∙◌}
 use mathlib.Core.Bool.{Bool, true, false, not, ◌||◌}
-use mathlib.Core.List.{List}
-use Prim.Native.Nat.{ℕ, ◌≤◌, ◌<◌}
-use lib.Dec.{T, eqb}
-use borrow.Author.Tests.{lt-leb, le-leb, eq-eqb, ne_eqb, not-true, not-false}
-use Rattle.whole.proofs.Bools.{is_true}
+use mathlib.Core.List.{List, [], ◌∷◌}
+use Prim.Native.Nat.{ℕ}
+use lib.Dec.{eqb}
+use Rattle.std.proofs.lemmas.Bool.Decides.{Decides-eqb, same_from_decides}
+use Rattle.std.specs.List.{list_any}
+use borrow.Author.Tests.{eq-eqb, ne_eqb}
 use Rattle.turtle.specs.Walk.{symbols_of}
 use Rattle.grammar.specs.declared.lines.Lines.{Lines}
 use Rattle.grammar.specs.declared.tally.Tally.{Tally}
@@ -19,35 +20,40 @@ use Rattle.grammar.specs.Inside.Tallies.{RuleWord, DrawWord}
 use Rattle.grammar.proofs.TallyLaws.{named_by}
 
 -- ---- 13
-abbrev reserved : ℕ → Bool
-reserved b = not (is_upper b) || eqb b 69 || eqb b 83 || eqb b 85 || eqb b 68 || eqb b 84
+eqb_swap : (a b : ℕ) → eqb a b ≡ eqb b a
+eqb_swap a b = let back = Decides-eqb b a in same_from_decides _ _ (Decides-eqb a b) (λ t. sym (back.0 t), λ e. back.1 (sym e))
 
-abbrev without : Type 0 → ℕ → ℕ → Type 0
-without A b k = A × (b ≡ k → ⊥)
+-- E S U D T
+abbrev reserved : List ℕ
+reserved = 69 ∷ 83 ∷ 85 ∷ 68 ∷ 84 ∷ []
+
+regroup : (l a b c d e n : Bool) → (l || a || b || c || d || e || n) ≡ (l || ((a || (b || (c || (d || (e || false))))) || n))
+regroup true a b c d e n = refl
+regroup false true b c d e n = refl
+regroup false false true c d e n = refl
+regroup false false false true d e n = refl
+regroup false false false false true e n = refl
+regroup false false false false false true n = refl
+regroup false false false false false false n = refl
 
 module _ (before : List Line) (l : Line) where
-  motif_by : {r : Bool} → reserved l.name ≡ r → bad_motif before l ≡ (r || is_named before l.name)
+  motif_is : bad_motif before l ≡ (not (is_upper l.name) || (list_any (λ y. eqb y l.name) reserved || is_named before l.name))
   unfolding bad_motif
-  motif_by e = ap (λ r. r || is_named before l.name) e
+  motif_is =
+      let b = l.name in
+      rw (eqb_swap 69 b, eqb_swap 83 b, eqb_swap 85 b, eqb_swap 68 b, eqb_swap 84 b)
+      (regroup (not (is_upper b)) (eqb b 69) (eqb b 83) (eqb b 85) (eqb b 68) (eqb b 84) (is_named before b))
 
-  pub motif_low : l.name < 65 → true ≡ bad_motif before l
-  unfolding bad_motif
-  motif_low h = sym (rw (lt-leb 65 l.name h) refl)
+  module _ {up : Bool} (up_is : up ≡ is_upper l.name) {v : Bool} where
+    pub motif_lower : up ≡ false → v ≡ not up → v ≡ bad_motif before l
+    motif_lower u e = e ∙ ap not u ∙ sym (motif_is ∙ (rw (sym up_is ∙ u) refl))
 
-  pub motif_reserved : (k : ℕ) → l.name ≡ k → T (reserved k) → true ≡ bad_motif before l
-  motif_reserved k e t = sym (motif_by (ap reserved e ∙ sym (is_true (reserved k) t)))
+    module _ (u : up ≡ true) {r : Bool} (among : r ≡ list_any (λ y. eqb y l.name) reserved) (e : v ≡ r) where
+      pub motif_reserved : v ≡ true → v ≡ bad_motif before l
+      motif_reserved t = t ∙ sym (motif_is ∙ (rw (sym up_is ∙ u, sym among ∙ sym e ∙ t) refl))
 
-  module _ (low : 65 ≤ l.name) where
-    pub motif_high : 90 < l.name → true ≡ bad_motif before l
-    unfolding bad_motif
-    motif_high h = sym (rw (le-leb 65 l.name low, lt-leb l.name 90 h) refl)
-
-    pub motif_named : l.name ≤ 90 → without (without (without (without (without (Unit {0}) l.name 69) l.name 83) l.name 85) l.name 68) l.name 84
-        → {r : Bool} → r ≡ is_named before l.name → r ≡ bad_motif before l
-    unfolding bad_motif
-    motif_named high n e =
-        e
-        ∙ sym (rw (le-leb 65 l.name low, le-leb l.name 90 high, ne_eqb l.name 69 n.0.0.0.0.1, ne_eqb l.name 83 n.0.0.0.1, ne_eqb l.name 85 n.0.0.1, ne_eqb l.name 68 n.0.1, ne_eqb l.name 84 n.1) refl)
+      pub motif_free : v ≡ false → {n : Bool} → n ≡ is_named before l.name → n ≡ bad_motif before l
+      motif_free f m = m ∙ sym (motif_is ∙ (rw (sym up_is ∙ u, sym among ∙ sym e ∙ f) refl))
 
 pub named_before : (text : List ℕ) (ls : Lines) (b i : ℕ) {r : Bool} → r ≡ has_name ls.name b i 0 → r ≡ is_named (lines_from text ls i 0) b
 named_before text ls b i e = e ∙ sym (named_by text ls b i 0)
@@ -65,22 +71,22 @@ module _ (ls : List Line) (l : Line) {w : List ℕ} {t : Tally} (e : w ≡ l.rul
   straight : t.upright ≡ upright 0 (rule_symbols ls l.rule)
   straight = r.straight ∙ ap (λ v. upright 0 (rule_symbols ls v)) e
 
-  pub heading_along : not t.upright ≡ true → true ≡ bad_heading ls l
+  pub heading_along : t.upright ≡ false → not t.upright ≡ bad_heading ls l
   unfolding bad_heading
-  heading_along u = sym (rw (sym straight ∙ not-true t.upright u) refl)
+  heading_along u = ap not u ∙ sym (rw (sym straight ∙ u) refl)
 
-  pub heading_back : not t.upright ≡ false → {s : Tally} → RuleWord ls (reversed w) s → not s.upright ≡ bad_heading ls l
+  pub heading_back : t.upright ≡ true → {v : List ℕ} → v ≡ reversed w → {s : Tally} → RuleWord ls v s → not s.upright ≡ bad_heading ls l
   unfolding bad_heading
-  heading_back u {s} b =
-      let back : s.upright ≡ upright 0 (rule_symbols ls (reversed l.rule)) = b.straight ∙ ap (λ v. upright 0 (rule_symbols ls (reversed v))) e in
-      sym (rw (sym straight ∙ not-false t.upright u) (ap not (sym back)))
+  heading_back u turned {s} b =
+      let back : s.upright ≡ upright 0 (rule_symbols ls (reversed l.rule)) = b.straight ∙ ap (λ v. upright 0 (rule_symbols ls v)) (turned ∙ ap reversed e) in
+      sym (rw (sym straight ∙ u) (ap not (sym back)))
 
   end : turned 0 (rule_symbols ls l.rule) ≡ t.heading
   end = sym (r.end ∙ ap (λ v. turned 0 (rule_symbols ls v)) e)
 
-  pub turns_rule : (t.heading ≡ 0 → ⊥) → true ≡ bad_turns ls l
+  pub turns_rule : (t.heading ≡ 0 → ⊥) → not (eqb t.heading 0) ≡ bad_turns ls l
   unfolding bad_turns
-  turns_rule n = sym (rw (end, ne_eqb t.heading 0 n) refl)
+  turns_rule n = ap not (ne_eqb t.heading 0 n) ∙ sym (rw (end, ne_eqb t.heading 0 n) refl)
 
   pub turns_draw : t.heading ≡ 0 → {v : List ℕ} {s : Tally} → v ≡ l.draw → DrawWord v s → not (eqb s.heading 0) ≡ bad_turns ls l
   unfolding bad_turns
@@ -93,12 +99,12 @@ module _ (l : Line) {w : List ℕ} {t : Tally} (e : w ≡ l.draw) (r : DrawWord 
   sound : lawful_draw l.draw ≡ t.lawful
   sound = sym (r.sound ∙ ap lawful_draw e)
 
-  pub draw_unlawful : not t.lawful ≡ true → true ≡ bad_draw l
+  pub draw_unlawful : t.lawful ≡ false → not t.lawful ≡ bad_draw l
   unfolding bad_draw
-  draw_unlawful u = sym (rw (sound ∙ not-true t.lawful u) refl)
+  draw_unlawful u = ap not u ∙ sym (rw (sound ∙ u) refl)
 
-  pub draw_count : not t.lawful ≡ false → not (eqb t.letters 1) ≡ bad_draw l
+  pub draw_count : t.lawful ≡ true → not (eqb t.letters 1) ≡ bad_draw l
   unfolding bad_draw
   draw_count u =
       let many : letter_count (symbols_of l.draw) ≡ t.letters = sym (r.count ∙ ap (λ v. letter_count (symbols_of v)) e) in
-      sym (rw (sound ∙ not-false t.lawful u, many) refl)
+      sym (rw (sound ∙ u, many) refl)

@@ -1,13 +1,18 @@
 -- Words of bytes in the form of what the code has in hand: a byte by the range that it is in, and a word's reversal
 -- place by place.
-use mathlib.Core.Path.{◌≡◌, sym, ap, ◌∙◌}
-use mathlib.Core.Bool.{Bool, true, false, not, ◌&&◌}
-use mathlib.Core.List.{List, map}
+use mathlib.Core.Path.{◌≡◌, refl, sym, ap, ◌∙◌}
+use mathlib.Core.Bool.{Bool, true, false, ◌&&◌, cond}
+use mathlib.Core.List.{List, ◌++◌, map, reverse}
 use Prim.Native.Nat.{ℕ, ◌+◌, ◌-◌, ◌≤◌, ◌<◌}
 use native.Mathlib.Omega.{arith}
-use lib.Dec.{leb, eqb}
-use lib.ListN.{length, get_or, length-reverse, length-map, get_or-map}
-use borrow.Author.Tests.{leb-true, leb-false, not-true, not-false, le-leb, lt-leb, ne_eqb}
+use lib.Dec.{leb, ltb, eqb}
+use lib.Seq.{take_at}
+use lib.ListN.{length, get_or, take, length-reverse, length-map, get_or-map}
+use borrow.Author.Tests.{le-leb, lt-leb, ltb-true, ltb-false, ne_eqb}
+use Rattle.std.specs.Char.{to_ascii_uppercase}
+use Rattle.std.specs.List.{enumerate_from}
+use Rattle.std.proofs.lemmas.Grind.{get_or_default_zero}
+use Rattle.std.proofs.lemmas.List.FromFn.{length-enumerate_from, get_or-enumerate_from}
 use Rattle.whole.proofs.Fill.{get_d_reverse}
 use Rattle.grammar.specs.Words.{upper, mirrored, reversed}
 use Rattle.grammar.proofs.ReversalLaws.{upper_other, mirrored_big, mirrored_other}
@@ -64,6 +69,14 @@ module _ {b : ℕ} where
   mirrored_after l =
       sym (mirrored_other b (no_turn 43 (omega arith)) (no_turn 45 (omega arith)) (above 97 122 b (omega arith) (omega arith)) (above 65 90 b (omega arith) (omega arith)))
 
+pub upper_ascii : (b : ℕ) → to_ascii_uppercase b ≡ upper b
+upper_ascii b = go (ltb b 97) (ltb b 123) refl refl
+  where
+    go : (p q : Bool) → ltb b 97 ≡ p → ltb b 123 ≡ q → cond p b (cond q (b - 32) b) ≡ upper b
+    go true q e f = upper_before (ltb-true b 97 e)
+    go false true e f = upper_lower (ltb-false b 97 e) (ltb-true b 123 f)
+    go false false e f = upper_after (ltb-false b 123 f)
+
 pub ruleset bytes = (upper_before, upper_lower, upper_after, mirrored_plus, mirrored_minus, mirrored_before, mirrored_upper, mirrored_between, mirrored_lower, mirrored_after)
 
 -- ---- reversal
@@ -78,11 +91,16 @@ reversed_at w i h =
     get_d_reverse (map mirrored w) i 0 (rw length-map h)
     ∙ (rw length-map (get_or-map mirrored w (length w - 1 - i) 0))
 
--- ---- answers
+-- a turn of a loop over a word from its end, with its number, after k turns
+pub reversed_turn : (w : List ℕ) {k i b : ℕ} → (k < length (enumerate_from 0 (reverse w))) × ((i, b) ≡ get_or (enumerate_from 0 (reverse w)) k (i, b))
+    → (k < length w) × ((i ≡ k) × (mirrored b ≡ get_or (reversed w) k 0))
+reversed_turn w {k} {i} {b} t =
+    let inside : k < length (reverse w) = rw length-enumerate_from at t.0 in
+    let here : k < length w = rw length-reverse at inside in
+    let item = t.1 ∙ get_or-enumerate_from 0 (reverse w) k (i, b) inside in
+    let byte : b ≡ get_or w (length w - 1 - k) 0 = ap (λ p. p.1) item ∙ get_or_default_zero (reverse w) k b inside ∙ get_d_reverse w k 0 here in
+    (here, (omega (arith, ap (λ p. p.0) item), ap mirrored byte ∙ sym (reversed_at w k here)))
 
--- what a flag tells that was tested for being false
-pub enough : {r : Bool} (m n : ℕ) → r ≡ leb m n → not r ≡ false → m ≤ n
-enough {r} m n e t = leb-true m n (sym e ∙ not-false r t)
-
-pub lacking : {r : Bool} (m n : ℕ) → r ≡ leb m n → not r ≡ true → n < m
-lacking {r} m n e t = leb-false m n (sym e ∙ not-true r t)
+-- a word's reverse, cut from the buffer that it was written to
+pub reversed_cut : (w d : List ℕ) {out v : List ℕ} → out ≡ reversed w ++ d → v ≡ take (length w) out → v ≡ reversed w
+reversed_cut w d e f = f ∙ (rw e (take_at (reversed w) d (length w) (length_reversed w)))

@@ -1,41 +1,34 @@
 -- Two results and two buffers that a contract of `word` allows are the same: an answer is known by what it says.
-use mathlib.Core.Path.{◌≡◌, refl, sym, ap, ◌∙◌}
+use mathlib.Core.Path.{◌≡◌, sym, ◌∙◌}
 use mathlib.Core.List.{List}
 use Prim.Native.Nat.{ℕ}
-use Rattle.triple.proofs.Determined.{one_to_one, numbered, answer_of}
-use Rattle.triple.specs.Refusals.{told}
+use Rattle.std.specs.Prelude.{Result}
+use Rattle.triple.proofs.Determined.{said_one_to_one}
+use Rattle.triple.specs.Refusals.{told, said}
 use Rattle.triple.specs.Lent.{count_of, after_call}
-use Rattle.grammar.specs.declared.word.WordAnswer.{WordAnswer}
 use Rattle.grammar.specs.declared.word.Book.{Book}
 use Rattle.grammar.specs.Words.{mirrored, reversed, expand_once}
-use Rattle.grammar.specs.WordAnswers.{said_word}
 use Rattle.grammar.specs.Books.{book_of}
-
-word_back : (a : WordAnswer) → answer_of WordAnswer.Written WordAnswer.Refused (said_word a) ≡ a
-word_back (WordAnswer.Written n) = refl
-word_back (WordAnswer.Refused e) = ap WordAnswer.Refused (numbered e)
-
-pub said_word_one_to_one : (a b : WordAnswer) → said_word a ≡ said_word b → a ≡ b
-said_word_one_to_one = one_to_one said_word (answer_of WordAnswer.Written WordAnswer.Refused) word_back
+use Rattle.triple.specs.declared.refusal.Refusal.{Refusal}
 
 -- what is allowed of an answer and a buffer by the word that is to be written
-abbrev Allowed : List ℕ → List ℕ → WordAnswer → List ℕ → Type 0
-Allowed word buffer a x = (said_word a ≡ count_of (told word) buffer) × (x ≡ after_call (told word) buffer)
+abbrev Allowed : List ℕ → List ℕ → Result ℕ Refusal → List ℕ → Type 0
+Allowed word buffer a x = (said a ≡ count_of (told word) buffer) × (x ≡ after_call (told word) buffer)
 
-allowed_once : (word buffer : List ℕ) (a b : WordAnswer) (x y : List ℕ) → Allowed word buffer a x → Allowed word buffer b y → (a ≡ b) × (x ≡ y)
-allowed_once word buffer a b x y p q = (said_word_one_to_one a b (p.0 ∙ sym q.0), p.1 ∙ sym q.1)
+allowed_once : (word buffer : List ℕ) (a b : Result ℕ Refusal) (x y : List ℕ) → Allowed word buffer a x → Allowed word buffer b y → (a ≡ b) × (x ≡ y)
+allowed_once word buffer a b x y p q = (said_one_to_one a b (p.0 ∙ sym q.0), p.1 ∙ sym q.1)
 
 pub mirrored_determined : (b r t : ℕ) → r ≡ mirrored b → t ≡ mirrored b → r ≡ t
 mirrored_determined b r t p q = p ∙ sym q
 
-pub reverse_motif_determined : (s out : List ℕ) (a b : WordAnswer) (x y : List ℕ)
-    → (said_word a ≡ count_of (told (reversed s)) out) × (x ≡ after_call (told (reversed s)) out)
-    → (said_word b ≡ count_of (told (reversed s)) out) × (y ≡ after_call (told (reversed s)) out)
+pub reverse_motif_determined : (s out : List ℕ) (a b : Result ℕ Refusal) (x y : List ℕ)
+    → (said a ≡ count_of (told (reversed s)) out) × (x ≡ after_call (told (reversed s)) out)
+    → (said b ≡ count_of (told (reversed s)) out) × (y ≡ after_call (told (reversed s)) out)
     → (a ≡ b) × (x ≡ y)
 reverse_motif_determined s out = allowed_once (reversed s) out
 
-pub expand_once_determined : (words : List ℕ) (book : Book) (s out : List ℕ) (a b : WordAnswer) (x y : List ℕ)
-    → (said_word a ≡ count_of (told (expand_once (book_of words book) s)) out) × (x ≡ after_call (told (expand_once (book_of words book) s)) out)
-    → (said_word b ≡ count_of (told (expand_once (book_of words book) s)) out) × (y ≡ after_call (told (expand_once (book_of words book) s)) out)
+pub expand_once_determined : (words : List ℕ) (book : Book) (s out : List ℕ) (a b : Result ℕ Refusal) (x y : List ℕ)
+    → (said a ≡ count_of (told (expand_once (book_of words book) s)) out) × (x ≡ after_call (told (expand_once (book_of words book) s)) out)
+    → (said b ≡ count_of (told (expand_once (book_of words book) s)) out) × (y ≡ after_call (told (expand_once (book_of words book) s)) out)
     → (a ≡ b) × (x ≡ y)
 expand_once_determined words book s out = allowed_once (expand_once (book_of words book) s) out

@@ -1,6 +1,5 @@
 -- What a grammar's lines draw: passes of the rules, the draw pass, the turtle's walk; and their motifs by token.
-use Rattle.std.specs.Prelude.{Bool, true, false, ◌&&◌, ◌||◌, cond, List, [], ◌∷◌, ◌++◌, map, ℕ, zero, suc, ◌+◌, ◌%◌, eqb, get_or}
-use mathlib.Core.Option.{Option, none, some}
+use Rattle.std.specs.Prelude.{Bool, true, false, ◌&&◌, ◌||◌, cond, List, [], ◌∷◌, ◌++◌, map, ℕ, zero, suc, ◌+◌, ◌%◌, eqb, get_or, Option, None, Some}
 use Rattle.turtle.specs.declared.AB.{AB}
 use Rattle.turtle.specs.declared.walk.DrawnCell.{DrawnCell}
 use Rattle.turtle.specs.declared.letter.Stroke.{Stroke}
@@ -10,8 +9,8 @@ use Rattle.grammar.specs.Texts.{Line}
 
 -- the word that the lines have for a motif letter: a rule, or a draw
 abbrev pub book_by : (Line → List ℕ) → List Line → ℕ → Option (List ℕ)
-book_by word [] b = none
-book_by word (l ∷ ls) b = cond (eqb l.name b) (some (word l)) (book_by word ls b)
+book_by word [] b = None
+book_by word (l ∷ ls) b = cond (eqb l.name b) (Some (word l)) (book_by word ls b)
 
 abbrev pub rules : List Line → ℕ → Option (List ℕ)
 rules = book_by (λ l. l.rule)

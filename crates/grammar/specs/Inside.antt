@@ -1,5 +1,6 @@
 -- What the contracts of private functions need.
 pub mod Places
+pub mod Sheets
 pub mod RowCuts
 pub mod Tallies
 pub mod LineTests

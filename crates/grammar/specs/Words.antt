@@ -1,6 +1,5 @@
 -- Words of bytes: reversal, and one expansion pass.
-use Rattle.std.specs.Prelude.{Bool, ◌&&◌, cond, List, [], ◌∷◌, ◌++◌, map, reverse, ℕ, ◌+◌, ◌-◌, leb, eqb}
-use mathlib.Core.Option.{Option, none, some}
+use Rattle.std.specs.Prelude.{Bool, ◌&&◌, cond, List, [], ◌∷◌, ◌++◌, map, reverse, ℕ, ◌+◌, ◌-◌, leb, eqb, Option, None, Some}
 
 abbrev pub is_lower : ℕ → Bool
 is_lower b = leb 97 b && leb b 122
@@ -22,12 +21,12 @@ reversed w = reverse (map mirrored w)
 
 -- a byte's word, as a book has it; of a lowercase letter, its uppercase letter's word reversed; else the byte itself
 abbrev pub reversed_or_self : ℕ → Option (List ℕ) → List ℕ
-reversed_or_self b (some w) = reversed w
-reversed_or_self b none = b ∷ []
+reversed_or_self b (Some w) = reversed w
+reversed_or_self b None = b ∷ []
 
 abbrev pub by_book : (ℕ → Option (List ℕ)) → ℕ → Option (List ℕ) → List ℕ
-by_book book b (some w) = w
-by_book book b none = reversed_or_self b (book (upper b))
+by_book book b (Some w) = w
+by_book book b None = reversed_or_self b (book (upper b))
 
 unfoldable pub word_of : (ℕ → Option (List ℕ)) → ℕ → List ℕ
 word_of book b = by_book book b (book b)

@@ -6,6 +6,7 @@
 pub mod lines;
 mod nets;
 pub mod scan;
+mod sheet;
 mod tally;
 pub mod tests;
 pub mod word;

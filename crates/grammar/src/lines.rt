@@ -1,14 +1,14 @@
 // The lines of a text by the places of their parts: what each test of a line, and the compiler, find
 // a motif's letter, its rule and its draw by.
-ghost use Rattle.std.specs.Prelude.{◌≡◌, ◌<◌, ◌≤◌, min};
+ghost use Rattle.std.specs.Prelude.{◌≡◌, ◌≤◌, min};
 ghost use Rattle.grammar.specs.Words.{upper};
 ghost use Rattle.grammar.specs.Scans.{has_name, rule_book, draw_book};
-ghost use Rattle.grammar.specs.Inside.Places.{line_at};
 
-use crate::word::{Book, least, upper, word_at};
+use crate::word::Book;
 
 // Where the parts of a text's lines stand in it, line by line, for the first `count` lines: the
 // motif's letter, the place of the rule's first byte and the rule's length, the same of the draw.
+// Stays arrays side by side: no heap, and the definition `with_line` of specs/Scans.antt names each.
 #[derive(Clone, Copy)]
 pub struct Lines {
     pub name: [u8; 8],
@@ -24,42 +24,17 @@ pub(crate) fn is_named(lines: Lines, n: usize, b: u8) -> bool
     requires { n ≤ 8 }
     ensures { result ≡ has_name lines.name b n 0 }
 {
-    let names = lines.name;
-    let mut i = 0;
-    while i < n {
-        if names[i] == b {
-            return true;
-        }
-        i += 1;
-    }
-    false
+    lines.name[..n].contains(&b)
 }
 
 // Whether a byte is a letter, in either case, of a motif that is listed.
 pub fn is_listed(lines: Lines, b: u8) -> bool
     ensures { result ≡ has_name lines.name (upper b) (min lines.count 8) 0 }
 {
-    is_named(lines, least(lines.count, 8), upper(b))
+    is_named(lines, lines.count.min(8), b.to_ascii_uppercase())
 }
 
-pub(crate) fn rule_of(text: &[u8], lines: Lines, i: usize) -> &[u8]
-    requires { i < 8 }
-    ensures { result.now ≡ (line_at text.now lines i).rule }
-{
-    let from = lines.rule;
-    let len = lines.rule_len;
-    word_at(text, from[i], len[i])
-}
-
-pub(crate) fn draw_of(text: &[u8], lines: Lines, i: usize) -> &[u8]
-    requires { i < 8 }
-    ensures { result.now ≡ (line_at text.now lines i).draw }
-{
-    let from = lines.draw;
-    let len = lines.draw_len;
-    word_at(text, from[i], len[i])
-}
-
+// Stays two functions, this and the next: each names its two arrays, and one that is told which is longer.
 pub fn rule_book(lines: Lines) -> Book
     ensures { result ≡ rule_book lines }
 {

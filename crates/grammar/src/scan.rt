@@ -10,6 +10,7 @@ use crate::word::word_at;
 
 // The lines of a text before the first that is at fault by 12, and the number of that one; all lines
 // and 0 where there is none. Behind the last line the arrays have 0.
+// Stays a number that is 0 where there is none: the definition `scan_of` of specs/Scans.antt says so.
 #[derive(Clone, Copy)]
 pub struct Scan {
     pub lines: Lines,
@@ -23,25 +24,11 @@ struct Scanner {
     at: usize,
 }
 
-// The first row of a text: a line, by the lengths of its rule and of the whole of it.
-#[derive(Clone, Copy)]
-enum Shape {
-    Line(usize, usize),
-    Other,
-}
-
 // How many bytes stand before the first `b`.
 fn until(s: &[u8], b: u8) -> usize
     ensures { result ≡ until b s.now }
 {
-    let mut i = 0;
-    while i < s.len() {
-        if s[i] == b {
-            return i;
-        }
-        i += 1;
-    }
-    i
+    s.iter().position(|c| *c == b).unwrap_or(s.len())
 }
 
 fn rest_of(s: &[u8], from: usize) -> &[u8]
@@ -55,48 +42,40 @@ fn rest_of(s: &[u8], from: usize) -> &[u8]
 fn fits(n: usize, most: usize) -> bool
     ensures { result ≡ (leb 1 n && leb n most) }
 {
-    if n < 1 {
-        return false;
-    }
-    n <= most
+    (1..=most).contains(&n)
 }
 
-fn whole_row(row: &[u8]) -> Shape
+fn whole_row(row: &[u8]) -> Option<(usize, usize)>
     ensures { WholeRow row.now result }
 {
     let name = until(row, b' ');
     if row.len() <= name {
-        return Shape::Other;
+        return None;
     }
     let rest = rest_of(row, name + 1);
     let rule = until(rest, b' ');
     if rest.len() <= rule {
-        return Shape::Other;
+        return None;
     }
     let last = rest_of(rest, rule + 1);
     let draw = until(last, b' ');
     if draw < last.len() {
-        return Shape::Other;
+        return None;
     }
-    if !fits(name, 1) {
-        return Shape::Other;
+    if fits(name, 1) && fits(rule, 24) && fits(draw, 12) {
+        Some((rule, row.len()))
+    } else {
+        None
     }
-    if !fits(rule, 24) {
-        return Shape::Other;
-    }
-    if !fits(draw, 12) {
-        return Shape::Other;
-    }
-    Shape::Line(rule, row.len())
 }
 
-fn first_row(t: &[u8]) -> Shape
+fn first_row(t: &[u8]) -> Option<(usize, usize)>
     requires { 0 < length t.now }
     ensures { FirstRow t.now result }
 {
     let n = until(t, b'\n');
     if t.len() <= n {
-        return Shape::Other;
+        return None;
     }
     whole_row(word_at(t, 0, n))
 }
@@ -115,29 +94,25 @@ fn no_lines() -> Lines
 }
 
 // One line more: its motif's letter, and the places and lengths of its rule and its draw.
-fn with_line(lines: Lines, name: u8, rule: usize, long: usize, draw: usize, wide: usize) -> Lines
+fn with_line(
+    mut lines: Lines,
+    name: u8,
+    rule: usize,
+    long: usize,
+    draw: usize,
+    wide: usize,
+) -> Lines
     requires { lines.count < 8 }
     ensures { result ≡ with_line lines name rule long draw wide }
 {
     let i = lines.count;
-    let mut names = lines.name;
-    let mut rules = lines.rule;
-    let mut rule_lens = lines.rule_len;
-    let mut draws = lines.draw;
-    let mut draw_lens = lines.draw_len;
-    names[i] = name;
-    rules[i] = rule;
-    rule_lens[i] = long;
-    draws[i] = draw;
-    draw_lens[i] = wide;
-    Lines {
-        name: names,
-        rule: rules,
-        rule_len: rule_lens,
-        draw: draws,
-        draw_len: draw_lens,
-        count: i + 1,
-    }
+    lines.name[i] = name;
+    lines.rule[i] = rule;
+    lines.rule_len[i] = long;
+    lines.draw[i] = draw;
+    lines.draw_len[i] = wide;
+    lines.count = i + 1;
+    lines
 }
 
 // The row at hand as one line more: n bytes before its LF, and as many of them its rule's as `long`.
@@ -146,10 +121,9 @@ fn with_row(text: &[u8], so_far: Scanner, long: usize, n: usize) -> Scanner
     ensures { result ≡ row_added text.now so_far long n }
 {
     let at = so_far.at;
-    let lines = so_far.lines;
     Scanner {
         lines: with_line(
-            lines,
+            so_far.lines,
             text[at],
             at + 2,
             long,
@@ -169,13 +143,14 @@ pub fn scan_text(text: &[u8]) -> Scan
         lines: no_lines(),
         at: 0,
     };
+    // Stays a while loop: the place goes on by what each row takes, which no iterator says plainer.
     while so_far.at < text.len() {
         let lines = so_far.lines;
         if lines.count == 8 {
             return Scan { lines, fault: 9 };
         }
         let row = first_row(rest_of(text, so_far.at));
-        let Shape::Line(long, n) = row else {
+        let Some((long, n)) = row else {
             return Scan {
                 lines,
                 fault: lines.count + 1,
@@ -183,6 +158,8 @@ pub fn scan_text(text: &[u8]) -> Scan
         };
         so_far = with_row(text, so_far, long, n);
     }
-    let lines = so_far.lines;
-    Scan { lines, fault: 0 }
+    Scan {
+        lines: so_far.lines,
+        fault: 0,
+    }
 }

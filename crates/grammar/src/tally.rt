@@ -1,11 +1,10 @@
 // What the bytes of a rule or of a draw come to: how many letters, the heading at the end, whether
 // each letter is met at heading 0 or 3, and whether each byte may stand there.
-ghost use Rattle.std.specs.Prelude.{◌≡◌, List, ℕ, ◌<◌, length, get_or};
+ghost use Rattle.std.specs.Prelude.{◌≡◌, List, ℕ, ◌<◌};
 ghost use Rattle.grammar.specs.Inside.Places.{lines_by};
-ghost use Rattle.grammar.specs.Inside.Tallies.{no_tally, still_upright, tally_with, RuleByte, DrawByte, RuleWord, DrawWord, directed};
+ghost use Rattle.grammar.specs.Inside.Tallies.{no_tally, still_upright, tally_with, RuleByte, DrawByte, RuleWord, DrawWord, Counts};
 
 use crate::lines::{Lines, is_listed};
-use crate::word::mirrored;
 
 // A byte of a word: a turn, a letter that may stand there, one that may not, or neither.
 #[derive(Clone, Copy)]
@@ -30,136 +29,98 @@ pub(crate) struct Tally {
 fn rule_byte(lines: Lines, b: u8) -> Kind
     ensures { (text : List ℕ) → RuleByte (lines_by text lines) b result }
 {
-    if b == b'+' {
-        return Kind::Left;
+    match b {
+        b'+' => Kind::Left,
+        b'-' => Kind::Right,
+        _ if is_listed(lines, b) => Kind::Letter,
+        _ => Kind::Nothing,
     }
-    if b == b'-' {
-        return Kind::Right;
-    }
-    if is_listed(lines, b) {
-        return Kind::Letter;
-    }
-    Kind::Nothing
 }
 
 fn draw_byte(b: u8) -> Kind
     ensures { DrawByte b result }
 {
-    if b == b'+' {
-        return Kind::Left;
-    }
-    if b == b'-' {
-        return Kind::Right;
-    }
     match b {
-        b'E' => Kind::Letter,
-        b'e' => Kind::Letter,
-        b'S' => Kind::Letter,
-        b's' => Kind::Letter,
-        b'U' => Kind::Stray,
-        b'u' => Kind::Stray,
-        b'D' => Kind::Letter,
-        b'd' => Kind::Letter,
-        b'T' => Kind::Letter,
-        b't' => Kind::Letter,
+        b'+' => Kind::Left,
+        b'-' => Kind::Right,
+        b'E' | b'e' | b'S' | b's' | b'D' | b'd' | b'T' | b't' => Kind::Letter,
+        b'U' | b'u' => Kind::Stray,
         _ => Kind::Nothing,
     }
 }
 
-fn still_upright(t: Tally) -> bool
-    ensures { result ≡ still_upright t }
-{
-    if !t.upright {
-        return false;
+impl Tally {
+    fn new() -> Self
+        ensures { result ≡ no_tally }
+    {
+        Self {
+            letters: 0,
+            heading: 0,
+            upright: true,
+            lawful: true,
+        }
     }
-    if t.heading == 0 {
-        return true;
-    }
-    t.heading == 3
-}
 
-fn no_tally() -> Tally
-    ensures { result ≡ no_tally }
-{
-    Tally {
-        letters: 0,
-        heading: 0,
-        upright: true,
-        lawful: true,
+    // Whether a letter met here leaves the word upright.
+    fn stays_upright(self) -> bool
+        ensures { result ≡ still_upright self }
+    {
+        self.upright && (self.heading == 0 || self.heading == 3)
     }
-}
 
-// One byte more.
-fn with_byte(t: Tally, kind: Kind) -> Tally
-    requires { (t.letters < 18446744073709551615) × (t.heading < 6) }
-    ensures { result ≡ tally_with kind t }
-{
-    let upright = still_upright(t);
-    match kind {
-        Kind::Left => Tally {
-            letters: t.letters,
-            heading: (t.heading + 1) % 6,
-            upright: t.upright,
-            lawful: t.lawful,
-        },
-        Kind::Right => Tally {
-            letters: t.letters,
-            heading: (t.heading + 5) % 6,
-            upright: t.upright,
-            lawful: t.lawful,
-        },
-        Kind::Letter => Tally {
-            letters: t.letters + 1,
-            heading: t.heading,
-            upright,
-            lawful: t.lawful,
-        },
-        Kind::Stray => Tally {
-            letters: t.letters + 1,
-            heading: t.heading,
-            upright,
-            lawful: false,
-        },
-        Kind::Nothing => Tally {
-            letters: t.letters,
-            heading: t.heading,
-            upright: t.upright,
-            lawful: false,
-        },
+    // One byte more.
+    fn with(self, kind: Kind) -> Self
+        requires { (self.letters < 18446744073709551615) × (self.heading < 6) }
+        ensures { result ≡ tally_with kind self }
+    {
+        match kind {
+            Kind::Left => Self {
+                heading: (self.heading + 1) % 6,
+                ..self
+            },
+            Kind::Right => Self {
+                heading: (self.heading + 5) % 6,
+                ..self
+            },
+            Kind::Letter => Self {
+                letters: self.letters + 1,
+                upright: self.stays_upright(),
+                ..self
+            },
+            Kind::Stray => Self {
+                letters: self.letters + 1,
+                upright: self.stays_upright(),
+                lawful: false,
+                ..self
+            },
+            Kind::Nothing => Self {
+                lawful: false,
+                ..self
+            },
+        }
     }
 }
 
-// A byte of a word, or of its reverse.
-fn byte_of(w: &[u8], back: bool, i: usize) -> u8
-    requires { i < length w.now }
-    ensures { result ≡ get_or (directed back w.now) i 0 }
+// What the bytes of a word come to, by the kind of each.
+fn tallied<F: Fn(u8) -> Kind>(w: &[u8], kind_of: F) -> Tally
+    requires { F.IsAlwaysCallable kind_of }
+    ensures { Counts (F.post kind_of) no_tally w.now result }
 {
-    if back {
-        return mirrored(w[w.len() - 1 - i]);
-    }
-    w[i]
-}
-
-pub(crate) fn rule_word(lines: Lines, w: &[u8], back: bool) -> Tally
-    ensures { (text : List ℕ) → RuleWord (lines_by text lines) (directed back w.now) result }
-{
-    let mut t = no_tally();
-    let mut i = 0;
-    while i < w.len() {
-        t = with_byte(t, rule_byte(lines, byte_of(w, back, i)));
-        i += 1;
+    let mut t = Tally::new();
+    for b in w {
+        t = t.with(kind_of(*b));
     }
     t
+}
+
+pub(crate) fn rule_word(lines: Lines, w: &[u8]) -> Tally
+    ensures { (text : List ℕ) → RuleWord (lines_by text lines) w.now result }
+{
+    tallied(w, |b| rule_byte(lines, b))
 }
 
 pub(crate) fn draw_word(w: &[u8]) -> Tally
     ensures { DrawWord w.now result }
 {
-    let mut t = no_tally();
-    let mut i = 0;
-    while i < w.len() {
-        t = with_byte(t, draw_byte(w[i]));
-        i += 1;
-    }
-    t
+    tallied(w, draw_byte)
 }

@@ -1,33 +1,35 @@
 // The tests of a grammar text by number, 12 to 19, each over all lines before the next.
-ghost use Rattle.std.specs.Prelude.{◌≡◌, List, ℕ, ◌<◌, min, take};
+ghost use Rattle.std.specs.Prelude.{◌≡◌, ◌+◌, ◌<◌, min, take, MatchOption};
 ghost use Rattle.grammar.specs.Tests.{first, bad_motif, bad_rule, bad_count, bad_heading, bad_draw, bad_turns, bad_net, line_tests, text_tests, fine};
 ghost use Rattle.grammar.specs.Scans.{scan_of};
 ghost use Rattle.grammar.specs.TextAnswers.{said_text};
-ghost use Rattle.grammar.specs.Inside.Places.{line_at, lines_by, lines_from, Sized};
+ghost use Rattle.grammar.specs.Inside.Places.{lines_from};
+ghost use Rattle.grammar.specs.Inside.Sheets.{lines_in, line_in};
 ghost use Rattle.grammar.specs.Inside.LineTests.{test_of};
 
-use crate::lines::{Lines, draw_of, is_named, rule_of};
-use crate::nets::{drawn_end, is_twice, ruled, ruled_end};
+use crate::lines::{Lines, is_named};
+use crate::nets::is_twice;
 use crate::scan::{Scan, scan_text};
+use crate::sheet::Sheet;
 use crate::tally::{draw_word, rule_word};
-use crate::word::{least, word_at};
+use crate::word::{word_at, write_back};
 use triple::refusal::Refusal;
 
 // A refusal from 12 to 19, with the number from 1 of the line at fault, or 0 of the empty text.
 #[derive(Clone, Copy)]
-pub enum TextAnswer {
-    Fine,
-    Fault(Refusal, usize),
+pub struct Fault {
+    pub refusal: Refusal,
+    pub line: usize,
 }
 
 // The lines of a text as its scan keeps them, and what its tests say.
 #[derive(Clone, Copy)]
 pub struct Reading {
     pub lines: Lines,
-    pub answer: TextAnswer,
+    pub answer: Result<(), Fault>,
 }
 
-// The tests of a line, by the refusal that each gives.
+// The tests of a line.
 #[derive(Clone, Copy)]
 enum Test {
     Motif,
@@ -39,176 +41,140 @@ enum Test {
     Net,
 }
 
-// 13: not uppercase, one of E S U D T, or the letter of a line before.
-fn bad_motif(lines: Lines, i: usize) -> bool
-    requires { i < 8 }
-    ensures { (text : List ℕ) → result ≡ bad_motif (lines_from text lines i 0) (line_at text lines i) }
-{
-    let names = lines.name;
-    let b = names[i];
-    if b < b'A' {
-        return true;
+impl Sheet<'_> {
+    // 13: not uppercase, one of E S U D T, or the letter of a line before.
+    fn bad_motif(&self, i: usize) -> bool
+        requires { i < 8 }
+        ensures { result ≡ bad_motif (lines_from self.now.text.now self.now.lines i 0) (line_in self.now i) }
+    {
+        let b = self.lines.name[i];
+        !b.is_ascii_uppercase() || b"ESUDT".contains(&b) || is_named(self.lines, i, b)
     }
-    if b > b'Z' {
-        return true;
+
+    // 14: a byte that may not stand in a rule.
+    fn bad_rule(&self, i: usize) -> bool
+        requires { i < 8 }
+        ensures { result ≡ bad_rule (lines_in self.now) (line_in self.now i) }
+    {
+        !rule_word(self.lines, self.rule(i)).lawful
     }
-    match b {
-        b'E' => true,
-        b'S' => true,
-        b'U' => true,
-        b'D' => true,
-        b'T' => true,
-        _ => is_named(lines, i, b),
+
+    // 15: not four children.
+    fn bad_count(&self, i: usize) -> bool
+        requires { i < 8 }
+        ensures { result ≡ bad_count (lines_in self.now) (line_in self.now i) }
+    {
+        rule_word(self.lines, self.rule(i)).letters != 4
     }
-}
 
-// 14: a byte that may not stand in a rule.
-fn bad_rule(text: &[u8], lines: Lines, i: usize) -> bool
-    requires { i < 8 }
-    ensures { result ≡ bad_rule (lines_by text.now lines) (line_at text.now lines i) }
-{
-    !rule_word(lines, rule_of(text, lines, i), false).lawful
-}
-
-// 15: not four children.
-fn bad_count(text: &[u8], lines: Lines, i: usize) -> bool
-    requires { i < 8 }
-    ensures { result ≡ bad_count (lines_by text.now lines) (line_at text.now lines i) }
-{
-    rule_word(lines, rule_of(text, lines, i), false).letters != 4
-}
-
-// 16: a child at a heading other than 0 or 3, in the rule or its reverse.
-fn bad_heading(text: &[u8], lines: Lines, i: usize) -> bool
-    requires { i < 8 }
-    ensures { result ≡ bad_heading (lines_by text.now lines) (line_at text.now lines i) }
-{
-    let rule = rule_of(text, lines, i);
-    if !rule_word(lines, rule, false).upright {
-        return true;
+    // 16: a child at a heading other than 0 or 3, in the rule or its reverse.
+    fn bad_heading(&self, i: usize) -> bool
+        requires { i < 8 }
+        ensures { result ≡ bad_heading (lines_in self.now) (line_in self.now i) }
+    {
+        let rule = self.rule(i);
+        let mut back = [0u8; 24];
+        write_back(rule, &mut back);
+        let back = word_at(&back, 0, rule.len());
+        !rule_word(self.lines, rule).upright || !rule_word(self.lines, back).upright
     }
-    !rule_word(lines, rule, true).upright
-}
 
-// 17: a byte that may not stand in a draw, or not one letter.
-fn bad_draw(text: &[u8], lines: Lines, i: usize) -> bool
-    requires { i < 8 }
-    ensures { result ≡ bad_draw (line_at text.now lines i) }
-{
-    let t = draw_word(draw_of(text, lines, i));
-    if !t.lawful {
-        return true;
+    // 17: a byte that may not stand in a draw, or not one letter.
+    fn bad_draw(&self, i: usize) -> bool
+        requires { i < 8 }
+        ensures { result ≡ bad_draw (line_in self.now i) }
+    {
+        let t = draw_word(self.draw(i));
+        !t.lawful || t.letters != 1
     }
-    t.letters != 1
-}
 
-// 18: the rule or the draw does not end at heading 0.
-fn bad_turns(text: &[u8], lines: Lines, i: usize) -> bool
-    requires { i < 8 }
-    ensures { result ≡ bad_turns (lines_by text.now lines) (line_at text.now lines i) }
-{
-    if rule_word(lines, rule_of(text, lines, i), false).heading != 0 {
-        return true;
+    // 18: the rule or the draw does not end at heading 0.
+    fn bad_turns(&self, i: usize) -> bool
+        requires { i < 8 }
+        ensures { result ≡ bad_turns (lines_in self.now) (line_in self.now i) }
+    {
+        rule_word(self.lines, self.rule(i)).heading != 0 || draw_word(self.draw(i)).heading != 0
     }
-    draw_word(draw_of(text, lines, i)).heading != 0
-}
 
-// 19: the net after two passes is not twice the net after one.
-fn bad_net(text: &[u8], lines: Lines, i: usize) -> bool
-    requires { Sized lines × (i < 8) }
-    ensures { result ≡ bad_net (lines_by text.now lines) (line_at text.now lines i) }
-{
-    let names = lines.name;
-    let motif = [names[i]; 1];
-    let mut rule = [0u8; 24];
-    let n = ruled(text, lines, &motif, &mut rule);
-    let word = word_at(&rule, 0, n);
-    let one = drawn_end(text, lines, word);
-    !is_twice(ruled_end(text, lines, word), one)
-}
-
-// Whether line i is at fault by a test.
-fn is_bad(text: &[u8], lines: Lines, test: Test, i: usize) -> bool
-    requires { Sized lines × (i < min lines.count 8) }
-    ensures { result ≡ test_of (lines_by text.now lines) test (take i (lines_by text.now lines)) (line_at text.now lines i) }
-{
-    match test {
-        Test::Motif => bad_motif(lines, i),
-        Test::Rule => bad_rule(text, lines, i),
-        Test::Count => bad_count(text, lines, i),
-        Test::Heading => bad_heading(text, lines, i),
-        Test::Draw => bad_draw(text, lines, i),
-        Test::Turns => bad_turns(text, lines, i),
-        Test::Net => bad_net(text, lines, i),
+    // 19: the net after two passes is not twice the net after one.
+    fn bad_net(&self, i: usize) -> bool
+        requires { i < 8 }
+        ensures { result ≡ bad_net (lines_in self.now) (line_in self.now i) }
+    {
+        let motif = [self.lines.name[i]; 1];
+        let mut rule = [0u8; 24];
+        let word = self.ruled(&motif, &mut rule);
+        !is_twice(self.ruled_end(word), self.drawn_end(word))
     }
-}
 
-// The number of the first line that is at fault by a test; 0 where there is none.
-fn first_bad(text: &[u8], lines: Lines, test: Test) -> usize
-    requires { Sized lines }
-    ensures { result ≡ first (test_of (lines_by text.now lines) test) (lines_by text.now lines) }
-{
-    let rows = least(lines.count, 8);
-    let mut i = 0;
-    while i < rows {
-        if is_bad(text, lines, test, i) {
-            return i + 1;
+    // Whether line i is at fault by a test.
+    // Stays a match on names: a table of closures of seven types needs `dyn`, and says no more.
+    fn is_bad(&self, test: Test, i: usize) -> bool
+        requires { i < min self.now.lines.count 8 }
+        ensures { result ≡ test_of (lines_in self.now) test (take i (lines_in self.now)) (line_in self.now i) }
+    {
+        match test {
+            Test::Motif => self.bad_motif(i),
+            Test::Rule => self.bad_rule(i),
+            Test::Count => self.bad_count(i),
+            Test::Heading => self.bad_heading(i),
+            Test::Draw => self.bad_draw(i),
+            Test::Turns => self.bad_turns(i),
+            Test::Net => self.bad_net(i),
         }
-        i += 1;
     }
-    0
-}
 
-// 13 to 19 over the lines.
-fn test_lines(text: &[u8], lines: Lines) -> TextAnswer
-    requires { Sized lines }
-    ensures { said_text result ≡ line_tests (lines_by text.now lines) fine }
-{
-    let motif = first_bad(text, lines, Test::Motif);
-    if motif != 0 {
-        return TextAnswer::Fault(Refusal::Motif, motif);
+    // The first line that is at fault by a test.
+    fn first_bad(&self, test: Test) -> Option<usize>
+        ensures { MatchOption result (first (test_of (lines_in self.now) test) (lines_in self.now) ≡ 0) (λ i. (i < 8) × (first (test_of (lines_in self.now) test) (lines_in self.now) ≡ i + 1)) }
+    {
+        (0..self.lines.count.min(8)).find(|i| self.is_bad(test, *i))
     }
-    let rule = first_bad(text, lines, Test::Rule);
-    if rule != 0 {
-        return TextAnswer::Fault(Refusal::Rule, rule);
+
+    // 13 to 19 over the lines.
+    fn test(&self) -> Result<(), Fault>
+        ensures { said_text result ≡ line_tests (lines_in self.now) fine }
+    {
+        let tests = [
+            (Test::Motif, Refusal::Motif),
+            (Test::Rule, Refusal::Rule),
+            (Test::Count, Refusal::Children),
+            (Test::Heading, Refusal::Heading),
+            (Test::Draw, Refusal::Draw),
+            (Test::Turns, Refusal::Turns),
+            (Test::Net, Refusal::Net),
+        ];
+        for (test, refusal) in tests {
+            if let Some(i) = self.first_bad(test) {
+                return Err(Fault {
+                    refusal,
+                    line: i + 1,
+                });
+            }
+        }
+        Ok(())
     }
-    let count = first_bad(text, lines, Test::Count);
-    if count != 0 {
-        return TextAnswer::Fault(Refusal::Children, count);
-    }
-    let heading = first_bad(text, lines, Test::Heading);
-    if heading != 0 {
-        return TextAnswer::Fault(Refusal::Heading, heading);
-    }
-    let draw = first_bad(text, lines, Test::Draw);
-    if draw != 0 {
-        return TextAnswer::Fault(Refusal::Draw, draw);
-    }
-    let turns = first_bad(text, lines, Test::Turns);
-    if turns != 0 {
-        return TextAnswer::Fault(Refusal::Turns, turns);
-    }
-    let net = first_bad(text, lines, Test::Net);
-    if net != 0 {
-        return TextAnswer::Fault(Refusal::Net, net);
-    }
-    TextAnswer::Fine
 }
 
 // The tests 12 to 19 of a text that is scanned.
-fn test_scan(text: &[u8], found: Scan) -> TextAnswer
+fn test_scan(text: &[u8], found: Scan) -> Result<(), Fault>
     requires { found ≡ scan_of text.now }
     ensures { said_text result ≡ text_tests text.now fine }
 {
-    if text.len() == 0 {
-        return TextAnswer::Fault(Refusal::Shape, 0);
+    if text.is_empty() {
+        return Err(Fault {
+            refusal: Refusal::Shape,
+            line: 0,
+        });
     }
-    let fault = found.fault;
-    if fault != 0 {
-        return TextAnswer::Fault(Refusal::Shape, fault);
+    if found.fault != 0 {
+        return Err(Fault {
+            refusal: Refusal::Shape,
+            line: found.fault,
+        });
     }
     let lines = found.lines;
-    test_lines(text, lines)
+    Sheet { text, lines }.test()
 }
 
 // A text's lines, and what the tests 12 to 19 say of it: one scan for both.
@@ -224,7 +190,7 @@ pub fn read_text(text: &[u8]) -> Reading
 }
 
 // The tests 12 to 19 of a grammar text.
-pub fn test_text(text: &[u8]) -> TextAnswer
+pub fn test_text(text: &[u8]) -> Result<(), Fault>
     ensures { said_text result ≡ text_tests text.now fine }
 {
     read_text(text).answer

@@ -6,20 +6,15 @@ use std::env::{Env, FillError};
 // Whether there is an argument at a place.
 pub fn is_given<E: Env>(rt: &E, i: usize) -> bool {
     let mut word = [0u8; 8];
-    match rt.arg(i, &mut word) {
-        Ok(_) => true,
-        Err(FillError::TooLong) => true,
-        Err(FillError::NotPresent) => false,
-    }
+    !matches!(rt.arg(i, &mut word), Err(FillError::NotPresent))
 }
 
-// Puts an argument at the front of what is lent, and answers its length; 0 where there is none or it is longer than
-// that.
-pub fn argument<E: Env>(rt: &E, i: usize, word: &mut [u8]) -> usize
-    ensures { result ≤ length word.old }
+// An argument, at the front of what is lent for it; empty where there is none or it is longer than that.
+pub fn argument<'a, E: Env>(rt: &E, i: usize, word: &'a mut [u8]) -> &'a [u8]
+    ensures { length result.now ≤ length word.old }
 {
     match rt.arg(i, word) {
-        Ok(n) => n,
-        Err(_) => 0,
+        Ok(n) => &word[..n],
+        Err(_) => &[],
     }
 }

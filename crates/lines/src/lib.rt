@@ -7,13 +7,15 @@
 
 ghost use Rattle.std.specs.Prelude.{◌≡◌, ◌-◌, ◌≤◌, length};
 ghost use Rattle.lines.specs.Exchanges.{is_whole, is_over, left_of, fresh, Within, Stopped};
-ghost use Rattle.lines.specs.Inside.Steps.{amid, ended, at_end, after_read, Sound};
+ghost use Rattle.lines.specs.Inside.Steps.{amid, ended, at_end, count_of, after_read, Sound};
 
 use std::io::{ErrorKind, Read};
 
+mod answering;
 mod arguments;
 mod streams;
 
+pub use answering::{Answers, answer_lines};
 pub use arguments::{argument, is_given};
 pub use streams::{fail, print, write_all};
 
@@ -35,6 +37,8 @@ pub enum Stop {
 // How far an exchange of lines is: the next byte of the piece that was read last, and that piece's end;
 // how many bytes of a line are kept, and how many of the output are gathered; and where the last step
 // stopped. Of a line that is longer than what is lent for it, the rest is passed over.
+// Stays places beside the buffers, which are lent to each step: `Within` and `Stopped`, which theorems are about, say
+// of an exchange by value where it is in what is lent.
 #[derive(Clone, Copy)]
 pub struct Exchange {
     pub at: usize,
@@ -81,31 +85,18 @@ impl Exchange {
     pub fn is_whole(self) -> bool
         ensures { result ≡ is_whole self.stop }
     {
-        let stop = self.stop;
-        match stop {
-            Stop::Piece => false,
-            Stop::Line => true,
-            Stop::Last => true,
-            Stop::End => false,
-            Stop::Failed => false,
-        }
+        matches!(self.stop, Stop::Line | Stop::Last)
     }
 
     // Whether nothing more is to be read.
-    fn is_over(self) -> bool
+    pub fn is_over(self) -> bool
         ensures { result ≡ is_over self.stop }
     {
-        let stop = self.stop;
-        match stop {
-            Stop::Piece => false,
-            Stop::Line => false,
-            Stop::Last => true,
-            Stop::End => true,
-            Stop::Failed => true,
-        }
+        matches!(self.stop, Stop::Last | Stop::End | Stop::Failed)
     }
 
     // How many of some turns are left: none where nothing more is to be read, and else one less.
+    #[tactic(auto, unfolding(crate::specs::Exchanges::left_of))]
     pub fn left(self, turns: u64) -> u64
         ensures value { result ≡ left_of self.stop turns }
         ensures upper_bound { result ≤ turns - 1 }
@@ -113,10 +104,7 @@ impl Exchange {
         if self.is_over() {
             return 0;
         }
-        if turns > 0 {
-            return turns - 1;
-        }
-        0
+        turns.saturating_sub(1)
     }
 
     // Goes on to the end of the next line, of the piece or of the input, whichever is first. What is
@@ -156,10 +144,8 @@ impl Exchange {
         let end = self.end;
         let kept = self.carried(line);
         let gathered = self.gathered;
-        if at <= end {
-            if end <= piece {
-                return Self::amid(at, end, kept, gathered);
-            }
+        if at <= end && end <= piece {
+            return Self::amid(at, end, kept, gathered);
         }
         Self::amid(0, 0, kept, gathered)
     }
@@ -169,14 +155,10 @@ impl Exchange {
     fn carried(self, line: usize) -> usize
         ensures { result ≤ line }
     {
-        let kept = self.kept;
-        if self.is_whole() {
+        if self.is_whole() || self.kept > line {
             return 0;
         }
-        if kept > line {
-            return 0;
-        }
-        kept
+        self.kept
     }
 
     // With some room in the output, and a new piece where the last one is used up.
@@ -192,10 +174,7 @@ impl Exchange {
         ensures { Sound (length piece.old) self.kept (length out.now - room) result }
     {
         let ready = self.ready(rt, out, room);
-        if ready.is_over() {
-            return ready;
-        }
-        if ready.at < ready.end {
+        if ready.is_over() || ready.at < ready.end {
             return ready;
         }
         ready.read(from, rt, piece)
@@ -208,12 +187,8 @@ impl Exchange {
         ensures { Sound self.end self.kept (length out.now - room) result }
     {
         let gathered = self.gathered;
-        if self.at < self.end {
-            if gathered <= out.len() {
-                if out.len() - gathered >= room {
-                    return self;
-                }
-            }
+        if self.at < self.end && gathered <= out.len() && out.len() - gathered >= room {
+            return self;
         }
         self.written(rt, out)
     }
@@ -235,41 +210,34 @@ impl Exchange {
         ensures { Sound (length piece.old) self.kept self.gathered result }
     {
         match from.read(piece) {
-            Ok(n) => self.after_read(n as isize, piece),
+            Ok(n) => self.after_read(Some(n), piece),
+            Err(e) if e.kind() == ErrorKind::Interrupted => self,
             Err(e) => {
-                if e.kind() == ErrorKind::Interrupted {
-                    return self;
-                }
                 fail(rt, "standard input", e);
-                self.after_read(-1, piece)
+                self.after_read(None, piece)
             }
         }
     }
 
-    // What a read's answer makes of it: a failure, the end of the input, or the length of a new piece.
-    fn after_read(self, got: isize, piece: &[u8]) -> Self
-        ensures { result ≡ after_read (length piece.now) got self }
+    // What a read makes of it: a failure, the end of the input, or the length of a new piece.
+    #[tactic(auto, unfolding(crate::specs::Inside::Steps::after_read))]
+    fn after_read(self, got: Option<usize>, piece: &[u8]) -> Self
+        ensures { result ≡ after_read (length piece.now) (count_of got) self }
     {
-        if got < 0 {
-            return Self::ended(0, 0, Stop::Failed);
+        match got {
+            None => Self::ended(0, 0, Stop::Failed),
+            Some(0) => self.at_end(),
+            Some(n) => Self::amid(0, n.min(piece.len()), self.kept, self.gathered),
         }
-        if got > 0 {
-            let end = (got as usize).min(piece.len());
-            return Self::amid(0, end, self.kept, self.gathered);
-        }
-        self.at_end()
     }
 
     // The bytes that are kept at the end of the input are a line that lacks LF.
+    #[tactic(auto, using(crate::proofs::StepLaws::end_stops), unfolding(crate::specs::Inside::Steps::at_end))]
     fn at_end(self) -> Self
         ensures { result ≡ at_end self }
     {
-        let kept = self.kept;
-        let gathered = self.gathered;
-        if kept > 0 {
-            return Self::ended(kept, gathered, Stop::Last);
-        }
-        Self::ended(kept, gathered, Stop::End)
+        let stop = if self.kept > 0 { Stop::Last } else { Stop::End };
+        Self::ended(self.kept, self.gathered, stop)
     }
 
     // Keeps the bytes up to LF, or to the end of the piece.
@@ -278,44 +246,33 @@ impl Exchange {
         ensures within { Within (length piece.now) (length line.old) self.gathered result }
         ensures stopped { Stopped piece.now result }
     {
-        let end = self.end;
-        let gathered = self.gathered;
-        let mut at = self.at;
-        let mut kept = self.kept;
-        while at < end {
-            let b = piece[at];
-            at += 1;
-            if b == 10 {
-                return Self {
-                    at,
-                    end,
-                    kept,
-                    gathered,
-                    stop: Stop::Line,
-                };
-            }
-            kept = keep(line, kept, b);
+        let (at, end) = (self.at, self.end);
+        let (kept, gathered) = (self.kept, self.gathered);
+        let rest = &piece[at..end];
+        match rest.iter().position(|b| *b == b'\n') {
+            Some(n) => Self {
+                at: at + n + 1,
+                end,
+                kept: keep(line, kept, &rest[..n]),
+                gathered,
+                stop: Stop::Line,
+            },
+            None => Self::amid(end, end, keep(line, kept, rest), gathered),
         }
-        Self::amid(at, end, kept, gathered)
     }
 }
 
-// A byte of a line, where there is room for it.
-fn keep(line: &mut [u8], kept: usize, b: u8) -> usize
+// Some bytes of a line behind those that are kept, as many as there is room for.
+fn keep(line: &mut [u8], kept: usize, bytes: &[u8]) -> usize
     requires { kept ≤ length line.old }
     ensures { result ≤ length line.old }
 {
-    if kept < line.len() {
-        line[kept] = b;
-        return kept + 1;
-    }
-    kept
+    let n = bytes.len().min(line.len() - kept);
+    line[kept..kept + n].copy_from_slice(&bytes[..n]);
+    kept + n
 }
 
 // Writes so many bytes, or all there are where that is fewer; answers whether it was done.
 fn write<P: Print + Eprint>(rt: &P, out: &[u8], n: usize) -> bool {
-    if n < out.len() {
-        return print(rt, &out[..n]);
-    }
-    print(rt, out)
+    print(rt, &out[..n.min(out.len())])
 }

@@ -7,13 +7,14 @@ use std::{io, str};
 // Writes all of some bytes, or fails at the first write that fails or takes nothing. A write that a signal cut short
 // has failed: how much of it was done is not known.
 pub fn write_all<W: Write>(to: &mut W, bytes: &[u8]) -> io::Result<()> {
-    let mut done: usize = 0;
-    while done < bytes.len() {
-        let n = to.write(&bytes[done..])?;
+    let mut rest = bytes;
+    // Stays a while loop: what is left goes on by what each write takes, which no iterator says plainer.
+    while !rest.is_empty() {
+        let n = to.write(rest)?;
         if n == 0 {
             return Err(io::Error::from(ErrorKind::WriteZero));
         }
-        done += n;
+        rest = &rest[n..];
     }
     Ok(())
 }
@@ -31,22 +32,21 @@ pub fn print<P: Print + Eprint>(rt: &P, bytes: &[u8]) -> bool {
 }
 
 // Says what failed and why, in a line of its own: what it was, a colon, and the system's words for it. Where that
-// fails there is nobody to be told.
+// fails there is nobody to be told. Stays over a buffer: what fails may be that there is no memory.
 pub fn fail<E: Eprint>(rt: &E, what: &str, error: io::Error) {
     let mut text = [0u8; 128];
-    let n = put_error(&mut text, error);
-    let reason = reason_of(&text[..n]);
+    let reason = reason_of(put_error(&mut text, error));
     let _ = eprintln!(rt; "{what}: {reason}");
 }
 
-// The error as std writes it, at the front of what is lent; answers its length.
-fn put_error(text: &mut [u8], error: io::Error) -> usize
-    ensures { result ≤ length text.old }
+// The error as std writes it, at the front of what is lent for it.
+fn put_error(text: &mut [u8], error: io::Error) -> &[u8]
+    ensures { length result.now ≤ length text.old }
 {
-    let room = text.len();
-    let mut cursor = Cursor::new(text);
+    let mut cursor = Cursor::new(&mut *text);
     let _ = write!(cursor, "{error}");
-    (cursor.position() as usize).min(room)
+    let n = cursor.position() as usize;
+    &text[..n.min(text.len())]
 }
 
 // The system's words alone, without the number that std puts behind them.

@@ -5,8 +5,9 @@ use mathlib.Core.Bool.{true}
 use Prim.Native.Nat.{ℕ, zero, suc, ◌+◌, ◌-◌, ◌*◌, ◌%◌, ◌≤◌}
 use native.Mathlib.Omega.{arith}
 use lib.IntN.{ℤ}
+use Rattle.std.specs.Prelude.{Result, Ok, Err}
 use Rattle.triple.specs.declared.Triple.{Triple}
-use Rattle.triple.specs.Refusals.{Told, told, refused}
+use Rattle.triple.specs.Refusals.{Told, told, refused, said}
 use Rattle.triple.specs.Orientations.{axiom_motif, is_shifted, curve_place}
 use Rattle.triple.specs.Triples.{is_in_bounds, closed_flavor}
 use Rattle.triple.proofs.OrientationLaws.{six, place_place}
@@ -22,12 +23,12 @@ use Rattle.a5.proofs.Separators.{Safe}
 use Rattle.a5.proofs.LookupLaws.{looks_at, ClearPick, SamePick, lookup_position, lookup_clear, lookup_same, picks_map}
 use Rattle.lsystem.specs.declared.Position.{Position}
 use Rattle.lsystem.specs.declared.Located.{Located}
-use Rattle.lsystem.specs.declared.lookup.PositionAnswer.{PositionAnswer}
-use Rattle.lsystem.specs.Answers.{said_located, said_position}
+use Rattle.lsystem.specs.Answers.{said_position}
 use Rattle.lsystem.specs.Cells.{cell_of, position_of}
 use Rattle.lsystem.specs.Looks.{unmoved, looked_up, AtLooks, looks_of, with_looks, located_of}
 use Rattle.lsystem.proofs.CellLaws.{axiom_in}
 use Rattle.lsystem.proofs.Numbering.{only_finds, seek_placed, cell_on, position_good, triple_named_lem}
+use Rattle.triple.specs.declared.refusal.Refusal.{Refusal}
 
 -- ---- where a lookup begins
 unmoved_drawn : (o : ℕ) → o ≤ 5 → (r : ℕ) (t : Triple) → unmoved o r t ≡ drawn (axiom_in o) r t
@@ -128,14 +129,14 @@ looks_same o h t f g i j (suc n) b = looked_up_lem o n h t b f i ∙ sym (looked
 
 -- ---- what is answered, and the position alone
 module _ (o r : ℕ) (t : Triple) where
-  by_position : (found : Told Position) (a : PositionAnswer) → said_located a ≡ with_looks o r t found → said_position a ≡ found
+  by_position : (found : Told Position) (a : Result Located Refusal) → said a ≡ with_looks o r t found → said_position a ≡ found
   unfolding with_looks
-  by_position (told p) (PositionAnswer.At l) e = cc
-  by_position (told p) (PositionAnswer.Refused n) e = cc
-  by_position (refused n) (PositionAnswer.At l) e = cc
-  by_position (refused n) (PositionAnswer.Refused m) e = cc
+  by_position (told p) (Ok l) e = cc
+  by_position (told p) (Err n) e = cc
+  by_position (refused n) (Ok l) e = cc
+  by_position (refused n) (Err m) e = cc
 
-  pub position_said : (a : PositionAnswer) → said_located a ≡ located_of o r t → said_position a ≡ position_of o r t
+  pub position_said : (a : Result Located Refusal) → said a ≡ located_of o r t → said_position a ≡ position_of o r t
   unfolding located_of
   position_said = by_position (position_of o r t)
 

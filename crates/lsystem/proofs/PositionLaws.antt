@@ -10,18 +10,16 @@ use lib.IntN.{ℤ, pos, neg_ℤ, nat_abs, ◌+ℤ◌, ◌-ℤ◌}
 use lib.Signed.{non_neg}
 use mir.Syntax.{w32, w64}
 use mir.Val.{Fits, to_z, of_z}
+use Rattle.std.specs.Prelude.{Result, Ok, Err}
 use Rattle.whole.proofs.View.{view, v_upto, v_same, v_add, v_neg, eq_by, kept}
 use Rattle.whole.proofs.Digits.{twice_power}
 use Rattle.triple.specs.declared.Triple.{Triple}
-use Rattle.triple.specs.declared.FlavorAnswer.{FlavorAnswer}
-use Rattle.triple.specs.declared.domain.DomainAnswer.{DomainAnswer}
 use Rattle.triple.specs.declared.orientation.Recipe.{Recipe}
 use Rattle.triple.specs.declared.refusal.Refusal.{Refusal}
 use Rattle.triple.specs.declared.refusal.Refusal.TheVariants as Is
-use Rattle.triple.specs.Refusals.{Told, told, refused, number_of, refuse}
+use Rattle.triple.specs.Refusals.{Told, told, refused, number_of, refuse, said}
 use Rattle.triple.specs.Domain.{domain_of, row_count, position_count}
 use Rattle.triple.specs.Orientations.{recipe_of, place_from, curve_place}
-use Rattle.triple.specs.Answers.{said_domain, said_flavor}
 use Rattle.triple.specs.Triples.{good_sum, is_in_bounds, closed_flavor, flavor_of}
 use Rattle.triple.proofs.DomainLaws.{out_of_domain, in_domain_lem, shallow, oriented, rows_most, v_rows}
 use Rattle.triple.proofs.OrientationLaws.{place_is}
@@ -150,13 +148,13 @@ refused_located : (o r : ℕ) (t : Triple) {n : ℕ} → refused n ≡ position_
 unfolding located_of with_looks
 refused_located o r t e = rw (sym e)
 
-module _ (o r : ℕ) (t : Triple) {a : DomainAnswer} (ea : said_domain a ≡ domain_of o r) where
-  pub position_outside : {e : Refusal} → a ≡ DomainAnswer.Refused e → refused (number_of e) ≡ located_of o r t
+module _ (o r : ℕ) (t : Triple) {a : Result Unit Refusal} (ea : said a ≡ domain_of o r) where
+  pub position_outside : {e : Refusal} → a ≡ Err e → refused (number_of e) ≡ located_of o r t
   unfolding position_of
   position_outside m = refused_located o r t (out_of_domain o r a ea _ m)
 
-  module _ (m : a ≡ DomainAnswer.In) (b : FlavorAnswer) (eb : said_flavor b ≡ flavor_of r t) where
-    known : said_flavor b ≡ answered (good_sum t) (is_in_bounds r t) (told (closed_flavor r t))
+  module _ (m : a ≡ (Ok tt)) (b : Result ℕ Refusal) (eb : said b ≡ flavor_of r t) where
+    known : said b ≡ answered (good_sum t) (is_in_bounds r t) (told (closed_flavor r t))
     unfolding flavor_of
     known = eb ∙ simp (le-ltb 30 r (shallow o r a ea m))
 
@@ -164,12 +162,12 @@ module _ (o r : ℕ) (t : Triple) {a : DomainAnswer} (ea : said_domain a ≡ dom
     unfolding position_of
     searched = in_domain_lem o r a ea m _
 
-    pub position_refused : {e : Refusal} → b ≡ FlavorAnswer.Refused e → refused (number_of e) ≡ located_of o r t
-    position_refused {e} k = refused_located o r t (refused_alike _ _ (number_of e) (good_sum t) (is_in_bounds r t) (ap said_flavor (sym k) ∙ known) ∙ searched)
+    pub position_refused : {e : Refusal} → b ≡ Err e → refused (number_of e) ≡ located_of o r t
+    position_refused {e} k = refused_located o r t (refused_alike _ _ (number_of e) (good_sum t) (is_in_bounds r t) (ap said (sym k) ∙ known) ∙ searched)
 
-    module _ {f : ℕ} (k : b ≡ FlavorAnswer.Flavor f) where
+    module _ {f : ℕ} (k : b ≡ Ok f) where
       within : (good_sum t ≡ true) × ((is_in_bounds r t ≡ true) × (f ≡ closed_flavor r t))
-      within = told_within (good_sum t) (is_in_bounds r t) (ap said_flavor (sym k) ∙ known)
+      within = told_within (good_sum t) (is_in_bounds r t) (ap said (sym k) ∙ known)
 
       pub within_bounds : is_in_bounds r t ≡ true
       within_bounds = within.1.0

@@ -93,77 +93,65 @@ module _ (q : Search) (c : ℕ) (r : SearchRoom 0 q) (l : c < 64) where
   end_s e f = omega (arith, r.s, end_small (q.row + c), f)
 
 -- ---- the loop of a walk
-walking_start : (letter r s : ℕ) → (letter < 3) × ((0 < r) × (r ≤ 30))
-    → let n = 3 * ((r - 1) / 3) in Walking (end_after (r - 1) s (on_row_of (28 + letter))) s n (on_row_of (28 + 3 * (n + 3 - r) + letter))
+pub walking_start : (letter r s : ℕ) → (letter < 3) × ((0 < r) × (r ≤ 30))
+    → let k = (r - 1) / 3 in Walking (end_after (r - 1) s (on_row_of (28 + letter))) s k (on_row_of (28 + 3 * (3 * k + 3 - r) + letter))
 walking_start letter r s h =
-    let n = 3 * ((r - 1) / 3) in
-    let e : n + 2 ≡ r - 1 + (n + 3 - r) = omega arith in
+    let k = (r - 1) / 3 in
+    let e : 3 * k + 2 ≡ r - 1 + (3 * k + 3 - r) = omega arith in
     record {
-      thirds = omega arith;
       most = omega arith;
-      room = walk_room_start n (28 + 3 * (n + 3 - r) + letter) (omega arith) (omega arith);
-      rest = ap (λ m. end_after m s (on_row_of (28 + 3 * (n + 3 - r) + letter))) e ∙ W.after_above (n + 3 - r) (r - 1) s letter;
+      room = walk_room_start (3 * k) (28 + 3 * (3 * k + 3 - r) + letter) (omega arith) (omega arith);
+      rest = ap (λ m. end_after m s (on_row_of (28 + 3 * (3 * k + 3 - r) + letter))) e ∙ W.after_above (3 * k + 3 - r) (r - 1) s letter;
     }
 
-module _ (end : End) (s n : ℕ) (w : Walk) (i : Walking end s n w) where
-  walking_step : 0 < n → Walking end s (n - 3) (three_down w (s / 4 ^ n % 64))
-  walking_step h =
-      let l : 3 ≤ n = omega (arith, i.thirds) in
+module _ (end : End) (s k : ℕ) (w : Walk) (i : Walking end s k w) where
+  pub walking_room : WalkRoom 0 w
+  walking_room = walk_room_now (3 * k) w i.room
+
+  pub walking_end : k ≡ 0 → end_below w (s % 64) ≡ end
+  walking_end h = W.after_end s w ∙ ap (λ m. end_after (3 * m + 2) s w) (sym h) ∙ i.rest
+
+  -- a step, by the three digits from a bit up
+  digits_by_bits : 0 < k → s / 2 ^ (6 * (k - 1) + 6) % 64 ≡ s / 4 ^ (3 * k) % 64
+  digits_by_bits h =
+      let e : 6 * (k - 1) + 6 ≡ 2 * (3 * k) = omega arith in
+      ap (λ m. s / m % 64) (ap (λ b. 2 ^ b) e ∙ four_by_shift (3 * k))
+
+  pub walking_on : 0 < k → (c : ℕ) → c ≡ s / 2 ^ (6 * (k - 1) + 6) % 64 → (v : Walk) → v ≡ three_down w c → Walking end s (k - 1) v
+  walking_on h c ec v ev =
+      let m : 3 * k - 3 ≡ 3 * (k - 1) = omega arith in
+      let e = ev ∙ ap (three_down w) (ec ∙ digits_by_bits h) in
       record {
-        thirds = omega (arith, i.thirds);
         most = omega (arith, i.most);
-        room = walk_room_step n w (s / 4 ^ n % 64) l i.room (omega arith);
-        rest = W.after_step n s w l ∙ i.rest;
+        room = rw (e, ← m) (walk_room_step (3 * k) w (s / 4 ^ (3 * k) % 64) (omega arith) i.room (omega arith));
+        rest = rw (e, ← m) (W.after_step (3 * k) s w (omega arith) ∙ i.rest);
       }
-
-  pub walking_end : n ≡ 0 → end_below w (s % 64) ≡ end
-  walking_end h = W.after_end s w ∙ ap (λ m. end_after (m + 2) s w) (sym h) ∙ i.rest
-
--- the same, as the code has the bits
-bits_thrice : (m : ℕ) → 3 * m ≡ 6 * m / 2
-bits_thrice m = omega arith
-
-pub bits_start : (letter r s : ℕ) → (letter < 3) × ((0 < r) × (r ≤ 30))
-    → let m = (r - 1) / 3 in Walking (end_after (r - 1) s (on_row_of (28 + letter))) s (6 * m / 2) (on_row_of (28 + 3 * (3 * m + 3 - r) + letter))
-bits_start letter r s h = subst (λ n. Walking (end_after (r - 1) s (on_row_of (28 + letter))) s n (on_row_of (28 + 3 * (3 * ((r - 1) / 3) + 3 - r) + letter))) (bits_thrice ((r - 1) / 3)) (walking_start letter r s h)
-
-digits_by_bits : (s bit : ℕ) → bit % 6 ≡ 0 → s / 2 ^ bit % 64 ≡ s / 4 ^ (bit / 2) % 64
-digits_by_bits s bit h =
-    let e : bit ≡ 2 * (bit / 2) = omega arith in
-    ap (λ m. s / m % 64) (ap (λ b. 2 ^ b) e ∙ four_by_shift (bit / 2))
-
-pub bits_step : (end : End) (s bit : ℕ) (w : Walk) → bit % 6 ≡ 0 → 0 < bit → Walking end s (bit / 2) w → (c : ℕ) → c ≡ s / 2 ^ bit % 64 → (v : Walk) → v ≡ three_down w c → Walking end s ((bit - 6) / 2) v
-bits_step end s bit w z h i c ec v ev =
-    let n : bit / 2 - 3 ≡ (bit - 6) / 2 = omega arith in
-    let e = ev ∙ ap (three_down w) (ec ∙ digits_by_bits s bit z) in
-    rw e (subst (λ n. Walking end s n (three_down w (s / 4 ^ (bit / 2) % 64))) n (walking_step end s (bit / 2) w i (omega arith)))
 
 -- ---- the loop of a search
 pub searching_start : (letter r : ℕ) (p : Spot) → (letter < 3) × ((0 < r) × (r ≤ 30))
-    → let n = (r - 1) / 3 * 3 in Searching (digits_after r p (on_tile (32 + letter))) p n (on_tile (32 + 3 * (n + 3 - r) + letter))
+    → let k = (r - 1) / 3 in Searching (digits_after r p (on_tile (32 + letter))) p k (on_tile (32 + 3 * (3 * k + 3 - r) + letter))
 searching_start letter r p h =
-    let n = (r - 1) / 3 * 3 in
-    let e : n + 3 ≡ r + (n + 3 - r) = omega arith in
+    let k = (r - 1) / 3 in
+    let e : 3 * k + 3 ≡ r + (3 * k + 3 - r) = omega arith in
     record {
-      thirds = omega arith;
       most = omega arith;
-      room = search_room_start n (32 + 3 * (n + 3 - r) + letter) (omega arith) (omega arith);
-      rest = ap (λ m. digits_after m p (on_tile (32 + 3 * (n + 3 - r) + letter))) e ∙ S.after_above (n + 3 - r) r letter p (omega arith);
+      room = search_room_start (3 * k) (32 + 3 * (3 * k + 3 - r) + letter) (omega arith) (omega arith);
+      rest = ap (λ m. digits_after m p (on_tile (32 + 3 * (3 * k + 3 - r) + letter))) e ∙ S.after_above (3 * k + 3 - r) r letter p (omega arith);
     }
 
-module _ (digits : ℕ) (p : Spot) (n : ℕ) (q : Search) (i : Searching digits p n q) where
-  searching_step : 0 < n → Searching digits p (n - 3) (three_below q (turns_at n p))
-  searching_step h =
-      let l : 3 ≤ n = omega (arith, i.thirds) in
+module _ (digits : ℕ) (p : Spot) (k : ℕ) (q : Search) (i : Searching digits p k q) where
+  pub searching_room : SearchRoom 0 q
+  searching_room = search_room_now (3 * k) q i.room
+
+  pub searching_end : k ≡ 0 → digits_below q (turns_at (3 * k) p) ≡ digits
+  searching_end h = ap (λ m. digits_below q (turns_at (3 * m) p)) h ∙ S.after_end p q ∙ ap (λ m. digits_after (3 * m + 3) p q) (sym h) ∙ i.rest
+
+  pub searching_on : 0 < k → (c : ℕ) → c ≡ turns_at (3 * k) p → (v : Search) → v ≡ three_below q c → Searching digits p (k - 1) v
+  searching_on h c ec v ev =
+      let m : 3 * k - 3 ≡ 3 * (k - 1) = omega arith in
+      let e = ev ∙ ap (three_below q) ec in
       record {
-        thirds = omega (arith, i.thirds);
         most = omega (arith, i.most);
-        room = search_room_step n q (turns_at n p) l i.room (S.turns_small n p);
-        rest = S.after_step n p q l ∙ i.rest;
+        room = rw (e, ← m) (search_room_step (3 * k) q (turns_at (3 * k) p) (omega arith) i.room (S.turns_small (3 * k) p));
+        rest = rw (e, ← m) (S.after_step (3 * k) p q (omega arith) ∙ i.rest);
       }
-
-  pub searching_on : 0 < n → (c : ℕ) → c ≡ turns_at n p → (v : Search) → v ≡ three_below q c → Searching digits p (n - 3) v
-  searching_on h c ec v ev = rw (ev ∙ ap (three_below q) ec) (searching_step h)
-
-  pub searching_end : n ≡ 0 → digits_below q (turns_at n p) ≡ digits
-  searching_end h = ap (λ m. digits_below q (turns_at m p)) h ∙ S.after_end p q ∙ ap (λ m. digits_after (m + 3) p q) (sym h) ∙ i.rest

@@ -1,13 +1,14 @@
 // From position to cell.
 ghost use Rattle.std.specs.Prelude.{◌≡◌, ◌<◌, ◌≤◌, ◌+◌, ◌-◌, ◌^◌};
 ghost use Rattle.strides.specs.Walks.{state_in};
-ghost use Rattle.lsystem.specs.Answers.{said_cell};
 ghost use Rattle.lsystem.specs.Cells.{cell_of};
 ghost use Rattle.lsystem.specs.Inside.CellParts.{triple_by, cell_by};
+ghost use Rattle.triple.specs.Refusals.{said};
 
+use crate::axiom::Curve;
 use crate::walk::walk_to;
 use triple::Triple;
-use triple::domain::{DomainAnswer, domain_of, position_count, row_count};
+use triple::domain::{domain_of, position_count, row_count};
 use triple::orientation::{place_from, recipe_of};
 use triple::refusal::Refusal;
 
@@ -16,12 +17,6 @@ use triple::refusal::Refusal;
 pub struct Cell {
     pub triple: Triple,
     pub flavor: u8,
-}
-
-#[derive(Clone, Copy)]
-pub enum CellAnswer {
-    Cell(Cell),
-    Refused(Refusal),
 }
 
 // The triple whose spot begins (x, y), by its parity: the sum of its numbers.
@@ -34,37 +29,33 @@ fn triple_at(resolution: u8, x: u64, y: u64, parity: u8) -> Triple
     Triple::new(column as i32, y as i32, up as i32)
 }
 
-// The cell at a place of the curve of the axiom A, C or B, by the number of its letter among them.
-fn cell_at(letter: u64, resolution: u8, place: u64) -> Cell
-    requires { (letter < 3) × ((0 < resolution) × (resolution ≤ 30)) }
-    ensures { result ≡ cell_by (state_in (28 + letter)) (resolution - 1) place }
+// The cell at a place of an axiom's curve.
+fn cell_at(curve: Curve, place: u64) -> Cell
+    ensures { result ≡ cell_by (state_in (28 + curve.letter)) (curve.resolution - 1) place }
 {
-    let e = walk_to(letter, resolution as u64, place);
+    let e = walk_to(curve, place);
     Cell {
-        triple: triple_at(resolution, e.x, e.y, e.flavor % 2),
+        triple: triple_at(curve.resolution, e.x, e.y, e.flavor % 2),
         flavor: e.flavor,
     }
 }
 
 // The cell that the position s names.
-pub fn s_to_cell(orientation: u8, resolution: u8, s: u64) -> CellAnswer
-    ensures { said_cell result ≡ cell_of orientation resolution s }
+pub fn s_to_cell(orientation: u8, resolution: u8, s: u64) -> Result<Cell, Refusal>
+    ensures { said result ≡ cell_of orientation resolution s }
 {
-    let domain = domain_of(orientation, resolution);
-    if let DomainAnswer::Refused(e) = domain {
-        return CellAnswer::Refused(e);
-    }
+    domain_of(orientation, resolution)?;
     let cells = position_count(resolution);
     if s >= cells {
-        return CellAnswer::Refused(Refusal::Position);
+        return Err(Refusal::Position);
     }
     if resolution == 0 {
-        return CellAnswer::Cell(Cell {
+        return Ok(Cell {
             triple: Triple::new(0, 0, 0),
             flavor: 2,
         });
     }
     let recipe = recipe_of(orientation);
     let place = place_from(recipe.backward, cells, s);
-    CellAnswer::Cell(cell_at((orientation / 2) as u64, resolution, place))
+    Ok(cell_at(Curve::of(orientation, resolution), place))
 }

@@ -1,24 +1,18 @@
 // From cell to position: the digits on the way to a cell's spot are searched from tile to tile.
 ghost use Rattle.std.specs.Prelude.{◌≡◌, true, ◌<◌, ◌≤◌, ◌-◌, ◌^◌};
-ghost use Rattle.triple.specs.Refusals.{told};
+ghost use Rattle.triple.specs.Refusals.{told, said};
 ghost use Rattle.triple.specs.Triples.{is_in_bounds, closed_flavor};
 ghost use Rattle.a5.specs.Inside.Spots.{spot, spot_at};
-ghost use Rattle.lsystem.specs.Answers.{said_located};
 ghost use Rattle.lsystem.specs.Cells.{seek};
 ghost use Rattle.lsystem.specs.Looks.{with_looks, located_of};
 
+use crate::axiom::Curve;
 use crate::search::{Spot, search};
 use crate::{Located, Position};
-use triple::domain::{DomainAnswer, domain_of, position_count, row_count};
+use triple::Triple;
+use triple::domain::{domain_of, position_count, row_count};
 use triple::orientation::{place_from, recipe_of};
 use triple::refusal::Refusal;
-use triple::{FlavorAnswer, Triple};
-
-#[derive(Clone, Copy)]
-pub enum PositionAnswer {
-    At(Located),
-    Refused(Refusal),
-}
 
 fn spot_of(resolution: u8, t: Triple) -> Spot
     requires { (0 < resolution) × ((resolution ≤ 30) × (is_in_bounds resolution t ≡ true)) }
@@ -39,8 +33,7 @@ fn looked_up(orientation: u8, resolution: u8, t: Triple, flavor: u8) -> Located
     requires { (orientation ≤ 5) × ((0 < resolution) × ((resolution ≤ 30) × ((is_in_bounds resolution t ≡ true) × (flavor ≡ closed_flavor resolution t)))) }
     ensures { told result ≡ with_looks orientation resolution t (seek orientation resolution t (4 ^ resolution) 0) }
 {
-    let letter = (orientation / 2) as u64;
-    let place = search(letter, resolution as u64, spot_of(resolution, t));
+    let place = search(Curve::of(orientation, resolution), spot_of(resolution, t));
     let recipe = recipe_of(orientation);
     let s = place_from(recipe.backward, position_count(resolution), place);
     Located {
@@ -51,25 +44,17 @@ fn looked_up(orientation: u8, resolution: u8, t: Triple, flavor: u8) -> Located
 }
 
 // The position of a triple, and the looks of its lookup. The one cell of resolution 0 is on no tile, and takes none.
-pub fn triple_to_s(orientation: u8, resolution: u8, t: Triple) -> PositionAnswer
-    ensures { said_located result ≡ located_of orientation resolution t }
+pub fn triple_to_s(orientation: u8, resolution: u8, t: Triple) -> Result<Located, Refusal>
+    ensures { said result ≡ located_of orientation resolution t }
 {
-    let domain = domain_of(orientation, resolution);
-    if let DomainAnswer::Refused(e) = domain {
-        return PositionAnswer::Refused(e);
+    domain_of(orientation, resolution)?;
+    let flavor = t.flavor(resolution)?;
+    if resolution > 0 {
+        return Ok(looked_up(orientation, resolution, t, flavor));
     }
-    let known = t.flavor(resolution);
-    match known {
-        FlavorAnswer::Flavor(flavor) => {
-            if resolution > 0 {
-                return PositionAnswer::At(looked_up(orientation, resolution, t, flavor));
-            }
-            PositionAnswer::At(Located {
-                picks: 0,
-                position: Position { s: 0, flavor },
-                comparisons: 0,
-            })
-        }
-        FlavorAnswer::Refused(e) => PositionAnswer::Refused(e),
-    }
+    Ok(Located {
+        picks: 0,
+        position: Position { s: 0, flavor },
+        comparisons: 0,
+    })
 }

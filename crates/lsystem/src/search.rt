@@ -5,6 +5,7 @@ ghost use Rattle.a5.specs.Inside.Spots.{spot};
 ghost use Rattle.strides.specs.Searches.{on_tile, three_below, turns_at, digits_below, digits_after};
 ghost use Rattle.lsystem.specs.Inside.Rooms.{SearchRoom};
 
+use crate::axiom::{Column, Curve};
 use strides::{Search, search_end, search_step};
 
 // A cell by its spot in the footprint of an axiom.
@@ -17,20 +18,22 @@ pub(crate) struct Spot {
 
 impl Spot {
     // Which way three levels go, by the bits of its numbers from n up.
-    fn turns(self, n: u64) -> u64
+    fn turns(self, n: u64) -> Column
         requires { n ≤ 30 }
-        ensures { (result < 64) × (result ≡ turns_at n (spot self.x self.y self.g)) }
+        ensures { result.at ≡ turns_at n (spot self.x self.y self.g) }
     {
-        ((self.x ^ self.g) >> n) % 8 + 8 * (((self.y ^ self.g) >> n) % 8)
+        Column {
+            at: ((self.x ^ self.g) >> n) % 8 + 8 * (((self.y ^ self.g) >> n) % 8),
+        }
     }
 }
 
 // Three levels down.
-fn step(q: Search, turns: u64) -> Search
-    requires { (SearchRoom 0 q) × (turns < 64) }
-    ensures { result ≡ three_below q turns }
+fn step(q: Search, turns: Column) -> Search
+    requires { SearchRoom 0 q }
+    ensures { result ≡ three_below q turns.at }
 {
-    let e = search_step(q.row + turns);
+    let e = search_step(q.row + turns.at);
     Search {
         row: e.row,
         s: 64 * q.s + e.s,
@@ -38,29 +41,28 @@ fn step(q: Search, turns: u64) -> Search
 }
 
 // The digits with those of the last three levels and the leaf's.
-fn end(q: Search, turns: u64) -> u64
-    requires { (SearchRoom 0 q) × (turns < 64) }
-    ensures { result ≡ digits_below q turns }
+fn end(q: Search, turns: Column) -> u64
+    requires { SearchRoom 0 q }
+    ensures { result ≡ digits_below q turns.at }
 {
-    256 * q.s + search_end(q.row + turns)
+    256 * q.s + search_end(q.row + turns.at)
 }
 
-// The digits on the way from the axiom of a letter, A, C or B, to a spot. The turns of a step are worked out in the step
-// before it: what is looked up waits for nothing else.
-pub(crate) fn search(letter: u64, resolution: u64, p: Spot) -> u64
-    requires { (letter < 3) × ((0 < resolution) × (resolution ≤ 30)) }
-    ensures { result ≡ digits_after resolution (spot p.x p.y p.g) (on_tile (32 + letter)) }
+// The digits on the way from a curve's axiom to a spot. The turns of a step are worked out in the step before it: what
+// is looked up waits for nothing else.
+pub(crate) fn search(curve: Curve, p: Spot) -> u64
+    ensures { result ≡ digits_after curve.resolution (spot p.x p.y p.g) (on_tile (32 + curve.letter)) }
 {
-    let mut n = (resolution - 1) / 3 * 3;
+    let resolution = curve.resolution as u64;
+    let steps = (resolution - 1) / 3;
     let mut q = Search {
-        row: 64 * (32 + 3 * (n + 3 - resolution) + letter),
+        row: 64 * (32 + 3 * (3 * steps + 3 - resolution) + curve.letter),
         s: 0,
     };
-    let mut turns = p.turns(n);
-    while n > 0 {
+    let mut turns = p.turns(3 * steps);
+    for k in (0..steps).rev() {
         q = step(q, turns);
-        n -= 3;
-        turns = p.turns(n);
+        turns = p.turns(3 * k);
     }
     end(q, turns)
 }

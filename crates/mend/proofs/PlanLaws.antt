@@ -8,14 +8,13 @@ use lib.ListN.{length, take, drop, get_or}
 use lib.Seq.{length-take-le}
 use mir.Syntax.{w8}
 use mir.Val.{Fits}
-use Rattle.triple.specs.Refusals.{Told, told}
+use Rattle.std.specs.Prelude.{Ok, Err, Result}
+use Rattle.triple.specs.Refusals.{Told, told, said}
 use Rattle.triple.specs.declared.refusal.Refusal.{Refusal}
 use Rattle.triple.specs.Lent.{after_call}
 use Rattle.triple.proofs.LentLaws.{whole_stored}
 use Rattle.code.specs.declared.Reading.{Reading}
-use Rattle.code.specs.declared.ReadAnswer.{ReadAnswer}
 use Rattle.code.specs.Codes.{code_length, code_bytes, code_of, loose_of, read_of}
-use Rattle.code.specs.Answers.{said_read}
 use Rattle.code.proofs.CodeLaws.{length_code}
 use Rattle.code.proofs.SpareLaws.{loose_sized}
 use Rattle.code.proofs.Canonical.{read_loosely, loose_writes}
@@ -27,13 +26,13 @@ use Rattle.mend.specs.Inside.Plans.{piece_for, plan_step, Sure}
 use Rattle.mend.proofs.PieceLaws.{unread_lost, unread_both, unread_spare, piece_unread, piece_turned, piece_copied}
 
 -- ---- of a code that is read loosely
-module _ (rest : List ℕ) (small : (i : ℕ) → Fits w8 (get_or rest i 0)) {a : ReadAnswer} (ea : said_read a ≡ loose_of rest) where
-  pub unread_dropped : {e : Refusal} → a ≡ ReadAnswer.Refused e → lost ≡ unread_of rest
-  unread_dropped m = unread_lost rest (sym (ap said_read m) ∙ ea)
+module _ (rest : List ℕ) (small : (i : ℕ) → Fits w8 (get_or rest i 0)) {a : Result Reading Refusal} (ea : said a ≡ loose_of rest) where
+  pub unread_dropped : {e : Refusal} → a ≡ Err e → lost ≡ unread_of rest
+  unread_dropped m = unread_lost rest (sym (ap said m) ∙ ea)
 
-  module _ (x : Reading) (m : a ≡ ReadAnswer.Read x) where
+  module _ (x : Reading) (m : a ≡ Ok x) where
     loose : loose_of rest ≡ told x
-    loose = sym ea ∙ ap said_read m
+    loose = sym ea ∙ ap said m
 
     pub unread_turned : x.old ≡ true → anew Both x ≡ unread_of rest
     unread_turned old = unread_both rest x (sym loose) old
@@ -50,13 +49,13 @@ module _ (rest : List ℕ) (small : (i : ℕ) → Fits w8 (get_or rest i 0)) {a 
 pub ruleset unreading = (unread_dropped, unread_turned, unread_cleared, unread_writes, unread_sized)
 
 -- ---- of one that the reader answers
-module _ (rest : List ℕ) {a : ReadAnswer} (ea : said_read a ≡ read_of rest) where
-  pub plan_unread : 0 < length rest → {e : Refusal} → a ≡ ReadAnswer.Refused e → {p : Piece} → p ≡ unread_of rest → p ≡ piece_of rest
-  plan_unread some m e = e ∙ piece_unread rest some (sym (ap said_read m) ∙ ea)
+module _ (rest : List ℕ) {a : Result Reading Refusal} (ea : said a ≡ read_of rest) where
+  pub plan_unread : 0 < length rest → {e : Refusal} → a ≡ Err e → {p : Piece} → p ≡ unread_of rest → p ≡ piece_of rest
+  plan_unread some m e = e ∙ piece_unread rest some (sym (ap said m) ∙ ea)
 
-  module _ (x : Reading) (m : a ≡ ReadAnswer.Read x) where
+  module _ (x : Reading) (m : a ≡ Ok x) where
     reads : read_of rest ≡ told x
-    reads = sym ea ∙ ap said_read m
+    reads = sym ea ∙ ap said m
 
     pub plan_turned : 0 < length rest → x.old ≡ true → anew Turned x ≡ piece_of rest
     plan_turned some old = piece_turned rest some x (sym reads) old

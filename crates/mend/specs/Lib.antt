@@ -1,3 +1,2 @@
 pub mod Mends
-pub mod Answers
 pub mod Inside

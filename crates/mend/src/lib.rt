@@ -4,16 +4,14 @@
 #![tactic(auto)]
 
 ghost use Rattle.std.specs.Prelude.{◌≡◌, ◌++◌, ◌<◌, ◌≤◌, length, get_or, take, drop};
-ghost use Rattle.triple.specs.Refusals.{told};
+ghost use Rattle.triple.specs.Refusals.{told, said};
 ghost use Rattle.triple.specs.Lent.{after_call};
 ghost use Rattle.code.specs.Codes.{code_of, read_of};
-ghost use Rattle.code.specs.Answers.{said_read};
 ghost use Rattle.mend.specs.Mends.{unread_of, piece_of, tellings, step_of, mend_call, mended_to};
-ghost use Rattle.mend.specs.Answers.{said_step, said_mend};
 ghost use Rattle.mend.specs.Inside.Plans.{piece_for, Sure, plan_step};
 ghost use Rattle.mend.specs.declared.Change.TheVariants.{Kept};
 
-use code::{ReadAnswer, Reading};
+use code::Reading;
 use triple::refusal::Refusal;
 
 // What was done to the code, or the byte, at the front of a rest.
@@ -41,20 +39,9 @@ pub struct Tally {
     pub changes: usize,
 }
 
-#[derive(Clone, Copy)]
-pub enum StepAnswer {
-    Taken(Stepped),
-    Refused(Refusal),
-}
-
-#[derive(Clone, Copy)]
-pub enum MendAnswer {
-    Mended(Tally),
-    Refused(Refusal),
-}
-
 // What to do with the front of a rest: copy a code of so many bytes, write anew what a code says, or drop
 // a byte.
+// Stays without an invariant: `Sure`, in three contracts, is of a plan and the rest together, and no plan holds a rest.
 #[derive(Clone, Copy)]
 enum Plan {
     Copy(usize),
@@ -64,15 +51,16 @@ enum Plan {
 
 // Mends a list into the front of a buffer that is at least as long. A refused call leaves the buffer as
 // it was.
-pub fn mend(list: &[u8], out: &mut [u8]) -> MendAnswer
-    ensures { (said_mend result ≡ mended_to list.now out.old) × (out.new ≡ after_call (mend_call list.now out.old) out.old) }
+pub fn mend(list: &[u8], out: &mut [u8]) -> Result<Tally, Refusal>
+    ensures { (said result ≡ mended_to list.now out.old) × (out.new ≡ after_call (mend_call list.now out.old) out.old) }
 {
     if out.len() < list.len() {
-        return MendAnswer::Refused(Refusal::Room);
+        return Err(Refusal::Room);
     }
     let mut at = 0;
     let mut written = 0;
     let mut changes = 0;
+    // Stays a while loop: the place goes on by what each code takes, which no iterator says plainer.
     while at < list.len() {
         let seen = code::read(&list[at..]);
         let plan = plan_of(seen, &list[at..]);
@@ -83,16 +71,16 @@ pub fn mend(list: &[u8], out: &mut [u8]) -> MendAnswer
         let change = x.change;
         changes += count_of(change);
     }
-    MendAnswer::Mended(Tally { written, changes })
+    Ok(Tally { written, changes })
 }
 
 // The first step of mending what is left of a list, for a caller that tells each change: it goes on
 // behind the bytes that were taken and behind those that were written. Of nothing, nothing is taken.
-pub fn step(rest: &[u8], out: &mut [u8]) -> StepAnswer
-    ensures { (said_step result ≡ step_of rest.now out.old) × (out.new ≡ after_call (told (piece_of rest.now).bytes) out.old) }
+pub fn step(rest: &[u8], out: &mut [u8]) -> Result<Stepped, Refusal>
+    ensures { (said result ≡ step_of rest.now out.old) × (out.new ≡ after_call (told (piece_of rest.now).bytes) out.old) }
 {
     if rest.len() == 0 {
-        return StepAnswer::Taken(Stepped {
+        return Ok(Stepped {
             taken: 0,
             written: 0,
             change: Change::Kept,
@@ -101,10 +89,10 @@ pub fn step(rest: &[u8], out: &mut [u8]) -> StepAnswer
     let plan = plan_of(code::read(rest), rest);
     let x = step_by(plan);
     if out.len() < x.written {
-        return StepAnswer::Refused(Refusal::Room);
+        return Err(Refusal::Room);
     }
     lay(plan, rest, out);
-    StepAnswer::Taken(x)
+    Ok(x)
 }
 
 // How many lines tell a change.
@@ -141,18 +129,18 @@ pub fn telling(change: Change, k: usize) -> Change
 }
 
 // The plan, by what the code reader answers on the rest.
-fn plan_of(seen: ReadAnswer, rest: &[u8]) -> Plan
-    requires { (said_read seen ≡ read_of rest.now) × (0 < length rest.now) }
+fn plan_of(seen: Result<Reading, Refusal>, rest: &[u8]) -> Plan
+    requires { (said seen ≡ read_of rest.now) × (0 < length rest.now) }
     ensures { (piece_for rest.now result ≡ piece_of rest.now) × Sure rest.now result }
 {
     match seen {
-        ReadAnswer::Read(x) => {
+        Ok(x) => {
             if x.old {
                 return Plan::Anew(x, Change::Turned);
             }
             Plan::Copy(x.used)
         }
-        ReadAnswer::Refused(_) => plan_unread(rest),
+        Err(_) => plan_unread(rest),
     }
 }
 
@@ -162,13 +150,13 @@ fn plan_unread(rest: &[u8]) -> Plan
 {
     let seen = code::read_loose(rest);
     match seen {
-        ReadAnswer::Read(x) => {
+        Ok(x) => {
             if x.old {
                 return Plan::Anew(x, Change::Both);
             }
             Plan::Anew(x, Change::Spare)
         }
-        ReadAnswer::Refused(_) => Plan::Drop,
+        Err(_) => Plan::Drop,
     }
 }
 
@@ -205,19 +193,19 @@ fn lay(plan: Plan, rest: &[u8], out: &mut [u8])
     }
 }
 
+// Copies the first n bytes. Stays byte by byte: they are few, and `copy_from_slice` calls the system's copy
+// for them, which mended a list of codes of one byte 5 % slower.
 fn copy(from: &[u8], n: usize, out: &mut [u8])
     requires { (n ≤ length from.now) × (n ≤ length out.old) }
     ensures { out.new ≡ take n from.now ++ drop n out.old }
 {
-    let mut k = 0;
-    while k < n {
+    for k in 0..n {
         out[k] = from[k];
-        k += 1;
     }
 }
 
 fn rewrite(x: Reading, out: &mut [u8])
     ensures { out.new ≡ after_call (code_of x.orientation x.resolution x.s) out.old }
 {
-    code::write(x.orientation, x.resolution, x.s, out);
+    let _ = code::write(x.orientation, x.resolution, x.s, out);
 }

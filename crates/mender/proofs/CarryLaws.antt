@@ -1,29 +1,20 @@
 -- A walk along a piece: what was written so far is followed by what the rest gives, whatever comes after the piece.
-use Rattle.std.proofs.Common.{◌≡◌, ℕ, ◌+◌, ◌-◌, ◌^◌, ◌<◌, ◌≤◌, Bool, true, false, List, [], ◌++◌, length, take, drop, sym, refl, ap, ◌∙◌, append_assoc, append-nil, le_refl, arith, length-append, length-drop, length-take-le, take_all, drop-drop, take_at, w64, Fits}
+use Rattle.std.specs.Prelude.{Result}
+use Rattle.std.proofs.Common.{◌≡◌, ℕ, ◌+◌, ◌-◌, ◌^◌, ◌<◌, ◌≤◌, Bool, true, false, List, [], ◌++◌, length, take, drop, sym, refl, ap, ◌∙◌, append_assoc, append-nil, le_refl, arith, length-append, length-drop, take_all, drop-drop, take_at, w64, Fits}
 use borrow.Rule.Slice.PartMut.{put_mid}
 use Rattle.whole.proofs.Fill.{fronted, length_fronted, fronted_back}
-use Rattle.triple.specs.Refusals.{told}
+use Rattle.triple.specs.Refusals.{told, said}
 use Rattle.triple.specs.declared.refusal.Refusal.{Refusal}
 use Rattle.triple.specs.Lent.{after_call}
-use Rattle.triple.proofs.RefusalLaws.{never}
 use Rattle.triple.proofs.LentLaws.{whole_count, whole_stored}
 use Rattle.mend.specs.declared.Stepped.{Stepped}
-use Rattle.mend.specs.declared.StepAnswer.{StepAnswer}
-use Rattle.mend.specs.Answers.{said_step}
 use Rattle.mend.specs.Mends.{longest_code, piece_of, mend_of, step_of}
 use Rattle.mend.proofs.PieceLaws.{piece_within}
 use Rattle.mend.proofs.Fronts.{piece_front, mend_goes_on}
-use Rattle.mender.specs.declared.walk.Walk.{Walk}
 use Rattle.mender.specs.Carries.{Carried}
 use Rattle.mender.specs.Inside.Steps.{limit_of, Given, whole_step}
 
--- ---- the limit of a piece that is not the last
-pub limit_long : (n : ℕ) {last : Bool} → last ≡ false → 8 < n → n - 8 ≡ limit_of last n
-limit_long n e h = rw e
-
-pub limit_short : (n : ℕ) {last : Bool} → last ≡ false → n ≤ 8 → 0 ≡ limit_of last n
-limit_short n e h = rw e (omega arith)
-
+-- ---- the limit of a piece
 pub limit_inside : (last : Bool) (n : ℕ) {limit : ℕ} → limit ≡ limit_of last n → limit ≤ n
 limit_inside true n e = omega (arith, e)
 limit_inside false n e = omega (arith, e)
@@ -34,17 +25,11 @@ module _ (rest slice : List ℕ) (h : length (piece_of rest).bytes ≤ length sl
   unfolding step_of
   step_roomy = rw (← whole_count slice {values = (piece_of rest).bytes} refl refl h)
 
-  pub step_given : (a : StepAnswer) → said_step a ≡ step_of rest slice → {x : Stepped} → Given (said_step a) x → x ≡ whole_step rest
-  step_given a said {x} given = given (whole_step rest) (said ∙ step_roomy)
+  pub step_given : (a : Result Stepped Refusal) → said a ≡ step_of rest slice → {x : Stepped} → Given (said a) x → x ≡ whole_step rest
+  step_given a says {x} given = given (whole_step rest) (says ∙ step_roomy)
 
   step_fronts : {back : List ℕ} → back ≡ after_call (told (piece_of rest).bytes) slice → back ≡ fronted (piece_of rest).bytes slice
   step_fronts laid = laid ∙ sym (whole_stored slice {values = (piece_of rest).bytes} refl refl h refl)
-
-pub given_taken : (a : StepAnswer) {x : Stepped} → a ≡ StepAnswer.Taken x → Given (said_step a) x
-given_taken a {x} m y e = let same : told x ≡ told y = sym (ap said_step m) ∙ e in cc same
-
-pub given_none : (a : StepAnswer) {e : Refusal} → a ≡ StepAnswer.Refused e → (x : Stepped) → Given (said_step a) x
-given_none a m x y e = never (sym (ap said_step m) ∙ e)
 
 -- ---- a walk so far
 pub record Under (piece d out : List ℕ) (last : Bool) (at n : ℕ) : Type 0 where
@@ -152,8 +137,8 @@ module _ {piece d out : List ℕ} {last : Bool} {at n : ℕ} (before : Under pie
     few_left true e = omega (arith, before.inside, limit_is ∙ ap (λ (b : Bool). limit_of b (length piece)) e)
     few_left false e = omega (arith, before.inside, limit_is ∙ ap (λ (b : Bool). limit_of b (length piece)) e)
 
-    pub carried : (gathered : ℕ) → Carried piece out last (record { taken = at; written = n; told = gathered })
-    carried gathered =
+    pub carried : Carried piece out last (record { taken = at; written = n })
+    carried =
         record {
           inside = before.inside;
           room = place_within;
@@ -164,13 +149,5 @@ module _ {piece d out : List ℕ} {last : Bool} {at n : ℕ} (before : Under pie
           all = λ e. all_taken last refl e;
           few = few_left last refl;
         }
-
--- ---- a piece that is the front of a buffer
-module _ (buffer : List ℕ) (end : ℕ) (l : end ≤ length buffer) where
-  pub front_fits : (out : List ℕ) → length buffer ≤ length out → length (take end buffer) ≤ length out
-  front_fits out h = rw (length-take-le end buffer l) (omega arith)
-
-  pub front_taken : {out : List ℕ} {last : Bool} {w : Walk} → Carried (take end buffer) out last w → w.taken ≤ end
-  front_taken c = omega (arith, c.inside, length-take-le end buffer l)
 
 pub ruleset carrying = (under_none, place_within, at_within, part_fits, at_fits, written_fits, ahead_less, under_next, carried)

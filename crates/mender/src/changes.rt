@@ -1,75 +1,71 @@
 // The lines that tell what was changed: the offset in the old list, a space, and `spare`, `turned` or `dropped`.
-// They are gathered, and written where little room is left. Where that fails it is said, and the place answered
-// is past the end, where nothing has room and nothing more is written.
+use lines::write_all;
 use mend::Change;
-use text::put::{put_bytes, put_natural};
+use std::io;
 
-// A line has at most 29 bytes: 20 digits, a space, a word of seven letters and LF.
-const ROOM: usize = 32;
+// So much is gathered before it is printed that another line has room in 4096 bytes: it has at most 29 of them, 20
+// digits, a space, a word of seven letters and LF.
+const MOST: usize = 4096 - 32;
 
-// Writes what is gathered, and answers that nothing is.
-pub fn written<P: Print + Eprint>(rt: &P, lines: &[u8], at: usize) -> usize {
-    if at > lines.len() {
-        return at;
-    }
-    if lines::print(rt, &lines[..at]) {
-        return 0;
-    }
-    lines.len() + 1
-}
-
-fn with_room<P: Print + Eprint>(rt: &P, lines: &[u8], at: usize) -> usize {
-    if at > lines.len() {
-        return at;
-    }
-    if lines.len() - at >= ROOM {
-        return at;
-    }
-    written(rt, lines, at)
-}
-
-fn put_line<P: Print + Eprint>(
-    rt: &P,
-    lines: &mut [u8],
-    at: usize,
+// The lines that are gathered, the offset in the old list of the piece that is mended, and the first failure of a
+// line, after which none is gathered or printed.
+#[derive(Drop)]
+pub(crate) struct Changes<'a, P> {
+    rt: &'a P,
     offset: u64,
-    word: &[u8],
-) -> usize {
-    let place = with_room(rt, lines, at);
-    let numbered = put_natural(lines, place, offset);
-    put_bytes(lines, numbered, word)
+    lines: String,
+    failure: Option<io::Error>,
 }
 
-// One line, by what it tells.
-fn tell_one<P: Print + Eprint>(
-    rt: &P,
-    lines: &mut [u8],
-    at: usize,
-    offset: u64,
-    change: Change,
-) -> usize {
-    match change {
-        Change::Spare => put_line(rt, lines, at, offset, b" spare\n"),
-        Change::Turned => put_line(rt, lines, at, offset, b" turned\n"),
-        Change::Dropped => put_line(rt, lines, at, offset, b" dropped\n"),
-        _ => at,
+impl<'a, P: Print + AllocGlobal> Changes<'a, P> {
+    pub(crate) fn new(rt: &'a P) -> Self {
+        Self {
+            rt,
+            offset: 0,
+            lines: String::new(rt.alloc()),
+            failure: None,
+        }
     }
-}
 
-// The lines of what was done to the code or byte at a place of a piece, whose own offset is given, in their order:
-// two at the most. No file is so long that an offset has no u64.
-pub fn tell<P: Print + Eprint>(
-    rt: &P,
-    lines: &mut [u8],
-    gathered: usize,
-    offset: u64,
-    at: usize,
-    change: Change,
-) -> usize {
-    if mend::count_of(change) == 0 {
-        return gathered;
+    // What was done to the code or byte at a place of the piece: two lines at the most.
+    pub(crate) fn tell(&mut self, at: usize, change: Change) {
+        for k in 0..mend::count_of(change) {
+            if self.failure.is_none() {
+                self.failure = self.tell_one(at, mend::telling(change, k)).err();
+            }
+        }
     }
-    let place = offset.wrapping_add(at as u64);
-    let first = tell_one(rt, lines, gathered, place, mend::telling(change, 0));
-    tell_one(rt, lines, first, place, mend::telling(change, 1))
+
+    // No file is so long that an offset has no u64.
+    fn tell_one(&mut self, at: usize, change: Change) -> io::Result<()> {
+        let word = match change {
+            Change::Spare => "spare",
+            Change::Turned => "turned",
+            Change::Dropped => "dropped",
+            _ => return Ok(()),
+        };
+        if self.lines.len() > MOST {
+            self.print()?;
+        }
+        let offset = self.offset.wrapping_add(at as u64);
+        writeln!(self.lines, "{offset} {word}")?;
+        Ok(())
+    }
+
+    // Goes on behind so many bytes of the piece, where no line failed.
+    pub(crate) fn pass(&mut self, taken: usize) -> io::Result<()> {
+        self.offset = self.offset.wrapping_add(taken as u64);
+        match self.failure.take() {
+            Some(e) => Err(e),
+            None => Ok(()),
+        }
+    }
+
+    // Prints the lines that are gathered.
+    pub(crate) fn print(&mut self) -> io::Result<()> {
+        let mut to = io::writer(self.rt);
+        write_all(&mut to, self.lines.as_bytes())?;
+        self.lines.clear();
+        Ok(())
+    }
 }

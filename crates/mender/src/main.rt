@@ -3,95 +3,67 @@
 // said on standard error, and then there is no new file.
 #![tactic(auto)]
 
-use course::Course;
+use course::carry_over;
+use failure::Failure;
 use lines::{argument, fail, is_given};
 use std::fs::{Files, OpenFile, OpenOptions};
 use std::io::{ErrorKind, Read, Write};
-use std::{fs, io, str};
+use std::{fs, str};
 
 mod changes;
 mod course;
+mod failure;
 mod walk;
 
 fn say_usage<E: Eprint>(rt: &E) {
     let _ = eprintln!(rt; "two arguments, a list of codes and a file to be made");
 }
 
-// All of the old list, or so much of it as can be read and written. The loop counts down from a number that no
-// list uses up.
-fn carry_over<R: Read, W: Write, P: Print + Eprint>(from: &mut R, to: &mut W, rt: &P) -> bool {
-    let mut piece = [0u8; 65536];
-    let mut out = [0u8; 65536];
-    let mut lines = [0u8; 4096];
-    let mut course = Course::new();
-    let mut turns = u64::MAX;
-    while turns > 0 {
-        course = course.next(from, to, rt, &mut piece, &mut out, &mut lines);
-        turns = course.left(turns);
-    }
-    course.close(rt, &lines)
-}
-
-// Whether the whole list stands in the new file, and the file on its disk. It is closed then.
-fn is_made<R: Read, W: Write + OpenFile + Drop, P: Print + Eprint>(
+// The whole list in the new file, and the file on its disk. It is closed then.
+fn make<R: Read, W: Write + OpenFile + Drop, P: Print + AllocGlobal>(
+    rt: &P,
     from: &mut R,
     mut to: W,
-    rt: &P,
-) -> bool {
-    if !carry_over(from, &mut to, rt) {
-        return false;
-    }
-    match to.sync_all() {
-        Ok(()) => true,
-        Err(e) => {
-            fail(rt, "the new list", e);
-            false
-        }
-    }
+) -> Result<(), Failure<'static>> {
+    carry_over(from, &mut to, rt)?;
+    to.sync_all().map_err(|error| Failure {
+        what: "the new list",
+        error,
+    })
 }
 
 // Into a file that is made here, and is gone where it is not whole.
-fn mend_into<R: Read, F: Files + Print + Eprint>(rt: &F, from: &mut R, new: &str) {
-    match OpenOptions::new()
+fn mend_into<R: Read, F: Files + Print + AllocGlobal>(
+    rt: &F,
+    from: &mut R,
+    new: &str,
+) -> Result<(), Failure<'static>> {
+    let to = OpenOptions::new()
         .write(true)
         .create_new(true)
         .open(rt, new)
-    {
-        Ok(to) => {
-            if !is_made(from, to, rt) {
-                let _ = fs::remove_file(rt, new);
-            }
-        }
-        Err(e) => fail(rt, "the new list", e),
+        .map_err(|error| Failure {
+            what: "the new list",
+            error,
+        })?;
+    let made = make(rt, from, to);
+    if made.is_err() {
+        let _ = fs::remove_file(rt, new);
     }
+    made
 }
 
-fn mend_from<F: Files + Print + Eprint>(rt: &F, old: &str, new: &str) {
-    match fs::open(rt, old) {
-        Ok(mut from) => mend_into(rt, &mut from, new),
-        Err(e) => fail(rt, old, e),
-    }
-}
-
-// The files of these names; a name that is no text is said.
-fn mend_named<F: Files + Print + Eprint>(rt: &F, old: &[u8], new: &[u8]) {
-    let Ok(old) = str::from_utf8(old) else {
-        fail(
-            rt,
-            "the old list",
-            io::Error::from(ErrorKind::InvalidFilename),
-        );
-        return;
-    };
-    let Ok(new) = str::from_utf8(new) else {
-        fail(
-            rt,
-            "the new list",
-            io::Error::from(ErrorKind::InvalidFilename),
-        );
-        return;
-    };
-    mend_from(rt, old, new);
+// The files of these names. A name that is no text is invalid.
+fn mend_named<'a, F: Files + Print + AllocGlobal>(
+    rt: &F,
+    old: &'a [u8],
+    new: &[u8],
+) -> Result<(), Failure<'a>> {
+    let invalid = ErrorKind::InvalidFilename;
+    let old = str::from_utf8(old).map_err(|_| Failure::of("the old list", invalid))?;
+    let new = str::from_utf8(new).map_err(|_| Failure::of("the new list", invalid))?;
+    let mut from = fs::open(rt, old).map_err(|error| Failure { what: old, error })?;
+    mend_into(rt, &mut from, new)
 }
 
 fn main(rt: HostRuntime) {
@@ -101,7 +73,9 @@ fn main(rt: HostRuntime) {
     }
     let mut old = [0u8; 4096];
     let mut new = [0u8; 4096];
-    let m = argument(&rt, 1, &mut old);
-    let n = argument(&rt, 2, &mut new);
-    mend_named(&rt, &old[..m], &new[..n]);
+    let old = argument(&rt, 1, &mut old);
+    let new = argument(&rt, 2, &mut new);
+    if let Err(failure) = mend_named(&rt, old, new) {
+        fail(&rt, failure.what, failure.error);
+    }
 }

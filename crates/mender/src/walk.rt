@@ -1,15 +1,15 @@
 // How far a list is mended that comes piece by piece: of each code at least nine bytes are seen, or all that is left,
 // so that what is written is what the whole list gives in one.
 ghost use Rattle.std.specs.Prelude.{◌≡◌, ◌≤◌, length};
-ghost use Rattle.triple.specs.Refusals.{told};
+ghost use Rattle.triple.specs.Refusals.{told, said};
 ghost use Rattle.triple.specs.Lent.{after_call};
 ghost use Rattle.mend.specs.Mends.{piece_of};
-ghost use Rattle.mend.specs.Answers.{said_step};
 ghost use Rattle.mender.specs.Carries.{Carried};
 ghost use Rattle.mender.specs.Inside.Steps.{limit_of, Given, whole_step};
 
-use crate::changes::tell;
-use mend::{Change, StepAnswer, Stepped};
+use crate::changes::Changes;
+use mend::{Change, Stepped};
+use triple::refusal::Refusal;
 
 // Up to where a piece of so many bytes is mended: no code has more than nine, and the last piece has no more to come.
 fn limit_of(size: usize, is_last: bool) -> usize
@@ -18,19 +18,16 @@ fn limit_of(size: usize, is_last: bool) -> usize
     if is_last {
         return size;
     }
-    if size > 8 {
-        return size - 8;
-    }
-    0
+    size.saturating_sub(8)
 }
 
 // What a step answered. With room for it, it is never refused.
-fn stepped(answer: StepAnswer) -> Stepped
-    ensures { Given (said_step answer) result }
+fn stepped(answer: Result<Stepped, Refusal>) -> Stepped
+    ensures { Given (said answer) result }
 {
     match answer {
-        StepAnswer::Taken(x) => x,
-        StepAnswer::Refused(_) => Stepped {
+        Ok(x) => x,
+        Err(_) => Stepped {
             taken: 0,
             written: 0,
             change: Change::Kept,
@@ -47,24 +44,20 @@ fn step(rest: &[u8], out: &mut [u8]) -> Stepped
     stepped(answer)
 }
 
-// How much of a piece was taken, how much was written for it, and how many bytes of lines are gathered.
+// How much of a piece was taken, and how much was written for it.
 #[derive(Clone, Copy)]
 pub struct Walk {
     pub taken: usize,
     pub written: usize,
-    pub told: usize,
 }
 
 // Mends a piece up to its limit, and tells the changes.
 #[tactic(auto, using(crate::proofs::CarryLaws::carrying))]
-pub fn walk_piece<P: Print + Eprint>(
-    rt: &P,
+pub fn walk_piece<P: Print + AllocGlobal>(
     piece: &[u8],
     is_last: bool,
     out: &mut [u8],
-    lines: &mut [u8],
-    offset: u64,
-    told: usize,
+    changes: &mut Changes<'_, P>,
 ) -> Walk
     requires { length piece.now ≤ length out.old }
     ensures { Carried piece.now out.new is_last result }
@@ -72,17 +65,12 @@ pub fn walk_piece<P: Print + Eprint>(
     let limit = limit_of(piece.len(), is_last);
     let mut at = 0;
     let mut written = 0;
-    let mut gathered = told;
+    // Stays a while loop: the place goes on by what each code takes, which no iterator says plainer.
     while at < limit {
         let x = step(&piece[at..], &mut out[written..]);
-        let change = x.change;
-        gathered = tell(rt, lines, gathered, offset, at, change);
+        changes.tell(at, x.change);
         at += x.taken;
         written += x.written;
     }
-    Walk {
-        taken: at,
-        written,
-        told: gathered,
-    }
+    Walk { taken: at, written }
 }

@@ -1,4 +1,5 @@
 -- Child steps: a frame's children by its place, the cell of a corner sum, and the step's refusals in their order.
+use Rattle.std.specs.Prelude.{Result, Ok, Err, Option, Some, None}
 use Rattle.std.proofs.Common.{◌≡◌, ℕ, zero, suc, ◌+◌, ◌*◌, ◌/◌, ◌%◌, ◌^◌, ◌<◌, ◌≤◌, Bool, true, false, cond, not, ◌&&◌, eqb, leb, ℤ, pos, ◌+ℤ◌, ◌-ℤ◌, ◌*ℤ◌, nat_abs, sym, refl, ap, ◌∙◌, arith, w8, w32, w64, Fits, SFits, le-ltb, lt-ltb, eq-eqb, ne_eqb, le-leb}
 use borrow.Author.Tests.{not-true, not-false}
 use mir.ValLaws.{to_z-of_z}
@@ -7,15 +8,12 @@ use Rattle.triple.specs.declared.Triple.{Triple}
 use Rattle.triple.specs.declared.orientation.Recipe.{Recipe}
 use Rattle.triple.specs.declared.refusal.Refusal.{Refusal}
 use Rattle.triple.specs.declared.refusal.Refusal.TheVariants as Is
-use Rattle.triple.specs.Refusals.{Told, told, refused, number_of, refuse}
-use Rattle.triple.specs.Orientations.{axiom_motif, axiom_of, is_backward, recipe_of, place_from, curve_place, moved_by, shifted}
+use Rattle.triple.specs.Refusals.{Told, told, refused, number_of, refuse, said}
+use Rattle.triple.specs.Orientations.{axiom_motif, axiom_of, recipe_of, place_from, curve_place, moved_by, shifted}
 use Rattle.triple.specs.Triples.{is_in_bounds}
 use Rattle.triple.proofs.OrientationLaws.{place_below}
-use Rattle.turtle.specs.declared.letter.Flavor.{Flavor}
-use Rattle.turtle.specs.declared.corner.TripleAnswer.{TripleAnswer}
 use Rattle.turtle.specs.Plane.{ab, origin, ◌⊕◌, thrice, flipped}
 use Rattle.turtle.specs.Corners.{triple_of}
-use Rattle.turtle.specs.Answers.{said_triple}
 use Rattle.turtle.specs.Inside.Sizes.{Within}
 use Rattle.turtle.proofs.CornerLaws.{triple, triple_is}
 use Rattle.grammar.specs.Curves.{place_in, token_of}
@@ -33,7 +31,6 @@ use Rattle.nodes.specs.declared.Frame.{Frame}
 use Rattle.nodes.specs.declared.Node.{Node}
 use Rattle.nodes.specs.declared.ChildStep.{ChildStep}
 use Rattle.nodes.specs.declared.Wide.{Wide}
-use Rattle.nodes.specs.declared.Bounded.{Bounded}
 use Rattle.nodes.specs.declared.descent.Place.{Place}
 use Rattle.nodes.specs.declared.descent.Drawn.{Drawn}
 use Rattle.nodes.specs.Nodes.{good_frame, can_step, is_flipped, frame_start, frame, axiom_frame, axiom_node, child_cell, below, node_below, bounded, cell_below_of, step_to, child_step_of}
@@ -75,9 +72,9 @@ unfolding state_of
 state_flip m false = ne_eqb ((2 * m + 0) % 2) 1 (omega arith)
 state_flip m true = eq-eqb ((2 * m + 1) % 2) 1 (omega arith)
 
-flavor_is : (g : Flavor) (f : ℕ) → pos f ≡ flavor_number g → f ≡ flavor_in g
-flavor_is (Flavor.Of g) f e = cc
-flavor_is Flavor.None f e = cc
+flavor_is : (g : Option ℕ) (f : ℕ) → pos f ≡ flavor_number g → f ≡ flavor_in g
+flavor_is (Some g) f e = cc
+flavor_is None f e = cc
 
 module _ (n : Frame) (g : good_frame n ≡ true) (d : ℕ) (l : d < 4) where
   listed : n.motif < 14
@@ -137,12 +134,12 @@ spread_at (suc n) t z h b = in_bounds_spread n (omega arith) t b
 narrow : (v : ℤ) → Within 1073741824 v → SFits w32 v
 narrow v w = fits (v_within 1073741824 1073741824 w.low w.high) tt
 
-module _ (moves : Bool) (r : ℕ) (c : Drawn) (a : TripleAnswer) (ea : said_triple a ≡ triple_of c.sum) where
-  pub cell_far : {e : Refusal} → a ≡ TripleAnswer.Refused e → refused (number_of Is.Bounds) ≡ bounded r (named_by moves r c)
+module _ (moves : Bool) (r : ℕ) (c : Drawn) (a : Result Triple Refusal) (ea : said a ≡ triple_of c.sum) where
+  pub cell_far : {e : Refusal} → a ≡ Err e → refused (number_of Is.Bounds) ≡ bounded r (named_by moves r c)
   unfolding named_by
-  cell_far m = rw (← (ap said_triple (sym m) ∙ ea))
+  cell_far m = rw (← (ap said (sym m) ∙ ea))
 
-  module _ (z : 0 < r) (h : r ≤ 30) {t : Triple} (m : a ≡ TripleAnswer.At t) (w : Wide) (ew : wide w ≡ moved_by moves r t)
+  module _ (z : 0 < r) (h : r ≤ 30) {t : Triple} (m : a ≡ Ok t) (w : Wide) (ew : wide w ≡ moved_by moves r t)
       (fx : SFits w64 w.x) (fy : SFits w64 w.y) (fz : SFits w64 w.z)
       (b : Bool) (eb : b ≡ (leb r 30 && is_in_bounds r (triple (rd w64 w.x) (rd w64 w.y) (rd w64 w.z)))) where
     read_is : triple (rd w64 w.x) (rd w64 w.y) (rd w64 w.z) ≡ wide w
@@ -153,7 +150,7 @@ module _ (moves : Bool) (r : ℕ) (c : Drawn) (a : TripleAnswer) (ea : said_trip
 
     cell_is : (u : Bool) → is_in_bounds r (wide w) ≡ u → refuse (not u) Is.Bounds (told (record { triple = wide w; flavor = c.flavor })) ≡ bounded r (named_by moves r c)
     unfolding named_by
-    cell_is u eu = rw (← (ap said_triple (sym m) ∙ ea), ← ew, eu)
+    cell_is u eu = rw (← (ap said (sym m) ∙ ea), ← ew, eu)
 
     pub cell_out : not b ≡ true → refused (number_of Is.Bounds) ≡ bounded r (named_by moves r c)
     cell_out n = cell_is false (sym bounds_are ∙ not-true b n)
@@ -208,17 +205,6 @@ module _ (n : Node) (d : ℕ) (g : can_step n ≡ true) (l : d < 4) where
 
 pub ruleset below_laws = (place_room, below_exact, next_fits, next_most, frame_good, cell_below, node_below_lem)
 
-module _ (n : Node) (d : ℕ) (f : Bounded) (ef : said_bounded f ≡ cell_below_of n d) where
-  pub step_out : f ≡ Bounded.Out → refused (number_of Is.Bounds) ≡ step_to n d
-  unfolding step_to
-  step_out k = rw (← (ap said_bounded (sym k) ∙ ef))
-
-  pub step_told : {v : Cell} → f ≡ Bounded.In v → {t : Node} → t ≡ node_below n d → told (record { cell = v; node = t }) ≡ step_to n d
-  unfolding step_to
-  step_told k et = rw (← (ap said_bounded (sym k) ∙ ef), et)
-
-pub ruleset stepped = (step_out, step_told)
-
 -- ---- the step by the digit d, case by case
 pub place_of_four : (w : Recipe) (d : ℕ) {j : ℕ} → d ≤ 3 → j ≡ place_from w.backward 4 d → j < 4
 place_of_four w d h e = rw e (place_below w.backward 4 d (omega arith))
@@ -236,10 +222,23 @@ module _ (n : Node) (d : ℕ) {g : Bool} (eg : g ≡ can_step n) where
     unfolding child_step_of
     child_no_digit l = rw (can_told, lt-ltb 3 d l)
 
-    pub child_answered : d ≤ 3 → {w : Recipe} → w ≡ recipe_of n.orientation → {j : ℕ} → j ≡ place_from w.backward 4 d → {x : Told ChildStep} → x ≡ step_to n j → x ≡ child_step_of n d
-    unfolding child_step_of curve_place recipe_of
-    child_answered l ew ej e =
-        let place_is : _ ≡ place_from (is_backward n.orientation) 4 d = ej ∙ ap (λ (w : Recipe). place_from w.backward 4 d) ew in
-        rw (can_told, le-ltb 3 d l) (e ∙ ap (step_to n) place_is)
+    -- at the place of the digit
+    module _ (l : d ≤ 3) {w : Recipe} (ew : w ≡ recipe_of n.orientation) {j : ℕ} (ej : j ≡ place_from w.backward 4 d) where
+      place_is : j ≡ curve_place n.orientation 1 d
+      unfolding curve_place recipe_of
+      place_is = ej ∙ ap (λ (w : Recipe). place_from w.backward 4 d) ew
 
-pub ruleset steps = (place_of_four, child_bad, can_told, child_no_digit, child_answered)
+      answered : {x : Told ChildStep} → x ≡ step_to n j → x ≡ child_step_of n d
+      unfolding child_step_of
+      answered e = rw (can_told, le-ltb 3 d l) (e ∙ ap (step_to n) place_is)
+
+      module _ {f : Option Cell} (ef : said_bounded f ≡ cell_below_of n j) where
+        pub child_out : f ≡ None → refused (number_of Is.Bounds) ≡ child_step_of n d
+        unfolding step_to
+        child_out k = answered (rw (← (ap said_bounded (sym k) ∙ ef)))
+
+        pub child_told : {v : Cell} → f ≡ Some v → {t : Node} → t ≡ node_below n j → told (record { cell = v; node = t }) ≡ child_step_of n d
+        unfolding step_to
+        child_told k et = answered (rw (← (ap said_bounded (sym k) ∙ ef), et))
+
+pub ruleset steps = (place_of_four, child_bad, can_told, child_no_digit, child_out, child_told)

@@ -1,8 +1,9 @@
 -- The code's descent: a place keeps room for the levels below it, and what it reaches is what following A5's table reaches.
-use Rattle.std.proofs.Common.{◌≡◌, ℕ, zero, suc, ◌+◌, ◌-◌, ◌*◌, ◌/◌, ◌%◌, ◌^◌, ◌<◌, ◌≤◌, T, List, [], ◌∷◌, ℤ, pos, ◌+ℤ◌, ◌*ℤ◌, nat_abs, sym, refl, ap, ◌∙◌, arith, lit≤, w64}
+use Rattle.std.proofs.Common.{◌≡◌, ℕ, zero, suc, ◌+◌, ◌-◌, ◌*◌, ◌/◌, ◌%◌, ◌^◌, ◌<◌, ◌≤◌, T, List, [], ◌∷◌, ℤ, pos, ◌+ℤ◌, ◌*ℤ◌, nat_abs, sym, refl, ap, ◌∙◌, arith, lit≤, w64, SFits}
 use native.Mathlib.Nat as N
+use Rattle.whole.proofs.Digits.{four_times_power}
 use Rattle.whole.proofs.Powers.{four_by_shift}
-use Rattle.whole.proofs.View.{View, rd, view, v_var, v_abs, v_add, v_mul, eq_by, kept}
+use Rattle.whole.proofs.View.{View, rd, view, v_var, v_abs, v_add, v_mul, v_bits, eq_by, fits}
 use Rattle.whole.proofs.Claims.{Claim, lt, le, int, Hold, below, all, each}
 use Rattle.turtle.specs.declared.AB.{AB}
 use Rattle.turtle.specs.Plane.{ab, origin, ◌⊕◌, thrice, doubled}
@@ -14,8 +15,6 @@ use Rattle.a5.specs.A5Table.{a5_table}
 use Rattle.a5.proofs.A5Entries.{leaf_small}
 use Rattle.nodes.specs.declared.descent.Place.{Place}
 use Rattle.nodes.specs.declared.descent.Drawn.{Drawn}
-use Rattle.nodes.specs.declared.words.Step.{Step}
-use Rattle.nodes.specs.declared.words.Leaf.{Leaf}
 use Rattle.nodes.specs.Inside.Descents.{step_at, leaf_at, down, leaf_from, descended, at_origin, start_of, Room, Exact}
 
 -- ---- a child's state is a state, its offset is small, and a leaf's flavor is a natural number
@@ -74,96 +73,98 @@ size m h = omega arith
 abbrev v_coordinate : (x : ℤ) → (nat_abs x + 16) * 2 ^ 0 ≤ 2 ^ 37 → View x
 v_coordinate x h = v_abs x (2 ^ 37) (omega (arith, size (nat_abs x) h))
 
-read_coordinate : (x : ℤ) → (nat_abs x + 16) * 2 ^ 0 ≤ 2 ^ 37 → rd w64 x ≡ x
-read_coordinate x h = kept w64 refl (v_coordinate x h) tt
+-- m times a coordinate, and an offset, as the machine adds them up
+abbrev Machine : ℕ → ℤ → ℤ → ℤ
+Machine m x o = rd w64 (pos m *ℤ rd w64 x) +ℤ rd w64 o
 
-read_offset : (x : ℤ) → nat_abs x ≤ 32 → rd w64 x ≡ x
-read_offset x h = kept w64 refl (v_abs x 32 h) tt
+module _ (x o : ℤ) (h : (nat_abs x + 16) * 2 ^ 0 ≤ 2 ^ 37) (l : nat_abs o ≤ 32) where
+  abbrev v_machine : (m : ℕ) → View (Machine m x o)
+  v_machine m = v_add (v_bits w64 _ (v_mul m (v_bits w64 x (v_coordinate x h)))) (v_bits w64 o (v_abs o 32 l))
 
-small_coordinate : (x : ℤ) → (nat_abs x + 16) * 2 ^ 0 ≤ 2 ^ 37 → nat_abs (rd w64 x) ≤ 2 ^ 37
-small_coordinate x h = rw (read_coordinate x h) (omega (arith, size (nat_abs x) h))
+  abbrev v_sum : (m : ℕ) → View (pos m *ℤ x +ℤ o)
+  v_sum m = v_add (v_mul m (v_coordinate x h)) (v_abs o 32 l)
 
-small_offset : (x : ℤ) → nat_abs x ≤ 32 → nat_abs (rd w64 x) ≤ 32
-small_offset x h = rw (read_offset x h) h
+  twice_fits : SFits w64 (Machine 2 x o)
+  twice_fits = fits (v_machine 2) tt
 
--- m times a coordinate, and an offset
-abbrev Sum : ℕ → ℤ → ℤ → ℤ → Type 0
-Sum m x o z = z ≡ pos m *ℤ rd w64 x +ℤ rd w64 o
+  thrice_fits : SFits w64 (Machine 3 x o)
+  thrice_fits = fits (v_machine 3) tt
 
-twice_read : (x o : ℤ) {z : ℤ} → (nat_abs x + 16) * 2 ^ 0 ≤ 2 ^ 37 → nat_abs o ≤ 32 → Sum 2 x o z → rd w64 z ≡ pos 2 *ℤ x +ℤ o
-twice_read x o h l e = kept w64 (e ∙ rw (read_coordinate x h, read_offset o l)) (v_add (v_mul 2 (v_coordinate x h)) (v_abs o 32 l)) tt
+  twice_is : rd w64 (Machine 2 x o) ≡ pos 2 *ℤ x +ℤ o
+  twice_is = eq_by (v_bits w64 _ (v_machine 2)) (v_sum 2) tt (omega arith)
 
-thrice_read : (x o : ℤ) {z : ℤ} → (nat_abs x + 16) * 2 ^ 0 ≤ 2 ^ 37 → nat_abs o ≤ 32 → Sum 3 x o z → rd w64 z ≡ pos 3 *ℤ x +ℤ o
-thrice_read x o h l e = kept w64 (e ∙ rw (read_coordinate x h, read_offset o l)) (v_add (v_mul 3 (v_coordinate x h)) (v_abs o 32 l)) tt
+  thrice_is : rd w64 (Machine 3 x o) ≡ pos 3 *ℤ x +ℤ o
+  thrice_is = eq_by (v_bits w64 _ (v_machine 3)) (v_sum 3) tt (omega arith)
 
-module _ (p : Place) (n : Room (2 ^ 37) 0 p) where
-  pub small_a : nat_abs (rd w64 p.a) ≤ 2 ^ 37
-  small_a = small_coordinate p.a n.a
+module _ (p : Place) (n : Room (2 ^ 37) 0 p) (d : ℕ) (l : d < 4) where
+  module _ {t : Place} (e : t ≡ step_at p.state d) where
+    step_small : (nat_abs t.a ≤ 32) × (nat_abs t.b ≤ 32)
+    unfolding step_at
+    step_small =
+        let c = entries p.state d n.state l in
+        (rw e (omega (arith, c.1.0)), rw e (omega (arith, c.1.1.0)))
 
-  pub small_b : nat_abs (rd w64 p.b) ≤ 2 ^ 37
-  small_b = small_coordinate p.b n.b
+    pub step_fits_a : SFits w64 (Machine 2 p.a t.a)
+    step_fits_a = twice_fits p.a t.a n.a step_small.0
 
-  module _ (d : ℕ) (l : d < 4) where
-    module _ {t : Step} (e : t ≡ step_at p.state d) where
-      step_small : (nat_abs t.a ≤ 32) × (nat_abs t.b ≤ 32)
-      unfolding step_at
-      step_small =
-          let c = entries p.state d n.state l in
-          (rw e (omega (arith, c.1.0)), rw e (omega (arith, c.1.1.0)))
+    pub step_fits_b : SFits w64 (Machine 2 p.b t.b)
+    step_fits_b = twice_fits p.b t.b n.b step_small.1
 
-      pub step_small_a : nat_abs (rd w64 t.a) ≤ 32
-      step_small_a = small_offset t.a step_small.0
+    pub stepped_down : ◌≡◌ {A = Place} (record { a = rd w64 (Machine 2 p.a t.a); b = rd w64 (Machine 2 p.b t.b); state = t.state }) (down p d)
+    unfolding down
+    stepped_down =
+        let a = twice_is p.a t.a n.a step_small.0 ∙ ap (λ (t : Place). pos 2 *ℤ p.a +ℤ t.a) e in
+        let b = twice_is p.b t.b n.b step_small.1 ∙ ap (λ (t : Place). pos 2 *ℤ p.b +ℤ t.b) e in
+        λ i. record { a = a i; b = b i; state = (e i).state }
 
-      pub step_small_b : nat_abs (rd w64 t.b) ≤ 32
-      step_small_b = small_offset t.b step_small.1
+  module _ {t : Drawn} (e : t ≡ leaf_at p.state d) where
+    sum_small : (nat_abs t.sum.a ≤ 32) × (nat_abs t.sum.b ≤ 32)
+    unfolding leaf_at
+    sum_small =
+        let c = leaf_small p.state d n.state l in
+        (rw e c.0, rw e c.1.0)
 
-      pub stepped_down : {x y : ℤ} → Sum 2 p.a t.a x → Sum 2 p.b t.b y → ◌≡◌ {A = Place} (record { a = rd w64 x; b = rd w64 y; state = t.state }) (down p d)
-      unfolding down
-      stepped_down ex ey =
-          let a = twice_read p.a t.a n.a step_small.0 ex ∙ ap (λ (t : Step). pos 2 *ℤ p.a +ℤ t.a) e in
-          let b = twice_read p.b t.b n.b step_small.1 ey ∙ ap (λ (t : Step). pos 2 *ℤ p.b +ℤ t.b) e in
-          λ i. record { a = a i; b = b i; state = (e i).state }
+    pub sum_fits_a : SFits w64 (Machine 3 p.a t.sum.a)
+    sum_fits_a = thrice_fits p.a t.sum.a n.a sum_small.0
 
-    module _ {t : Leaf} (e : t ≡ leaf_at p.state d) where
-      sum_small : (nat_abs t.a ≤ 32) × (nat_abs t.b ≤ 32)
-      unfolding leaf_at
-      sum_small =
-          let c = leaf_small p.state d n.state l in
-          (rw e c.0, rw e c.1.0)
+    pub sum_fits_b : SFits w64 (Machine 3 p.b t.sum.b)
+    sum_fits_b = thrice_fits p.b t.sum.b n.b sum_small.1
 
-      pub sum_small_a : nat_abs (rd w64 t.a) ≤ 32
-      sum_small_a = small_offset t.a sum_small.0
+    pub leaf_drawn : {s : AB} → s ≡ ab (rd w64 (Machine 3 p.a t.sum.a)) (rd w64 (Machine 3 p.b t.sum.b)) → ◌≡◌ {A = Drawn} (record { sum = s; flavor = t.flavor }) (leaf_from p d)
+    unfolding leaf_from
+    leaf_drawn es =
+        let a = thrice_is p.a t.sum.a n.a sum_small.0 ∙ ap (λ (t : Drawn). pos 3 *ℤ p.a +ℤ t.sum.a) e in
+        let b = thrice_is p.b t.sum.b n.b sum_small.1 ∙ ap (λ (t : Drawn). pos 3 *ℤ p.b +ℤ t.sum.b) e in
+        let s = es ∙ pair_is a b in
+        λ i. record { sum = s i; flavor = (e i).flavor }
 
-      pub sum_small_b : nat_abs (rd w64 t.b) ≤ 32
-      sum_small_b = small_offset t.b sum_small.1
-
-      pub leaf_drawn : {x y : ℤ} → Sum 3 p.a t.a x → Sum 3 p.b t.b y → {s : AB} → s ≡ ab (rd w64 x) (rd w64 y) → ◌≡◌ {A = Drawn} (record { sum = s; flavor = t.flavor }) (leaf_from p d)
-      unfolding leaf_from
-      leaf_drawn ex ey es =
-          let a = thrice_read p.a t.a n.a sum_small.0 ex ∙ ap (λ (t : Leaf). pos 3 *ℤ p.a +ℤ t.a) e in
-          let b = thrice_read p.b t.b n.b sum_small.1 ey ∙ ap (λ (t : Leaf). pos 3 *ℤ p.b +ℤ t.b) e in
-          let s = es ∙ pair_is a b in
-          λ i. record { sum = s i; flavor = (e i).flavor }
-
-pub ruleset stepping = (small_a, small_b, step_small_a, step_small_b, stepped_down, sum_small_a, sum_small_b, leaf_drawn)
+pub ruleset stepping = (step_fits_a, step_fits_b, stepped_down, sum_fits_a, sum_fits_b, leaf_drawn)
 
 -- ---- the loop: one digit fewer is left
+four_more : (s k : ℕ) → 4 * s / 4 ^ suc k ≡ s / 4 ^ k
+four_more s k =
+    let e : 4 * s / 4 ≡ s = omega arith in
+    rw (four_times_power k) (sym (N.div-div-eq-div-mul (4 * s) 4 (4 ^ k)) ∙ ap (λ m. m / 4 ^ k) e)
+
 module _ (k s : ℕ) (p : Place) where
-  module _ (h : 0 < k) {q : Place} (e : q ≡ down p (s / 2 ^ (2 * k) % 4)) where
+  module _ (h : 0 < k) {d : ℕ} (ed : d ≡ s / 2 ^ (2 * (k - 1)) % 4) {q : Place} (e : q ≡ down p d) where
     pub room_step : Room (2 ^ 37) k p → Room (2 ^ 37) (k - 1) q
-    room_step n = rw e (go k h n (s / 2 ^ (2 * k)))
+    room_step n = rw (e, ed) (go k h n (s / 2 ^ (2 * (k - 1))))
       where
         go : (k : ℕ) → 0 < k → Room (2 ^ 37) k p → (d : ℕ) → Room (2 ^ 37) (k - 1) (down p (d % 4))
         go zero h n d = absurd (N.not-suc-le-zero h)
         go (suc k) h n d = let f : suc k - 1 ≡ k = omega arith in rw f (room_down (2 ^ 37) k p _ n (omega arith))
 
-    pub descended_step : {r : Place} → descended k s p ≡ r → descended (k - 1) s q ≡ r
+    pub descended_step : {r : Place} → descended k (4 * s) p ≡ r → descended (k - 1) (4 * s) q ≡ r
     unfolding descended
-    descended_step f = rw (e, four_by_shift k) (go k h) ∙ f
+    descended_step f = rw (e, ed, four_by_shift (k - 1)) (go k h) ∙ f
       where
-        go : (k : ℕ) → 0 < k → descended (k - 1) s (down p (s / 4 ^ k % 4)) ≡ descended k s p
+        go : (k : ℕ) → 0 < k → descended (k - 1) (4 * s) (down p (s / 4 ^ (k - 1) % 4)) ≡ descended k (4 * s) p
         go zero h = absurd (N.not-suc-le-zero h)
-        go (suc k) h = let f : suc k - 1 ≡ k = omega arith in rw f
+        go (suc k) h =
+            let f : suc k - 1 ≡ k = omega arith in
+            let g : 4 * s / 4 ^ suc k ≡ s / 4 ^ k = four_more s k in
+            rw (f, g)
 
   pub descended_none : k ≤ 0 → {r : Place} → descended k s p ≡ r → p ≡ r
   unfolding descended
@@ -176,8 +177,8 @@ unfoldable pub leaf_of : Place → ℕ → Table.Leaf
 leaf_of p d = record { sum = thrice (start_of p) ⊕ sum_at a5_table p.state d; flavor = flavor_at a5_table p.state d }
 
 -- the code's leaf
-thrice_is : (x o : ℤ) → pos 3 *ℤ x +ℤ o ≡ x +ℤ x +ℤ x +ℤ o
-thrice_is x o =
+thrice_sum : (x o : ℤ) → pos 3 *ℤ x +ℤ o ≡ x +ℤ x +ℤ x +ℤ o
+thrice_sum x o =
     let vx = v_var x in
     let vo = v_var o in
     eq_by (search view) (search view) tt (omega arith)
@@ -185,7 +186,7 @@ thrice_is x o =
 module _ (p : Place) (d : ℕ) (h : p.state < 28) (l : d < 4) where
   pub leaf_sum_of : (leaf_from p d).sum ≡ (leaf_of p d).sum
   unfolding leaf_from leaf_at leaf_of thrice ◌⊕◌
-  leaf_sum_of = pair_is (thrice_is p.a _) (thrice_is p.b _)
+  leaf_sum_of = pair_is (thrice_sum p.a _) (thrice_sum p.b _)
 
   pub leaf_flavor_of : pos (leaf_from p d).flavor ≡ (leaf_of p d).flavor
   unfolding leaf_from leaf_at leaf_of

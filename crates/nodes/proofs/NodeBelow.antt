@@ -1,17 +1,16 @@
 -- The node below a cell: what a position that is told says of its arguments, and where the descent by all of its digits ends.
-use Rattle.std.proofs.Common.{◌≡◌, ℕ, ◌*◌, ◌/◌, ◌^◌, ◌<◌, ◌≤◌, sym, ap, ◌∙◌, subst, arith, w64, Fits}
-use native.Mathlib.Nat as N
+use Rattle.std.specs.Prelude.{Result, Ok, Err}
+use Rattle.std.proofs.Common.{◌≡◌, ℕ, ◌*◌, ◌/◌, ◌^◌, ◌<◌, ◌≤◌, sym, ap, ◌∙◌, subst, arith}
 use Rattle.triple.specs.declared.Triple.{Triple}
 use Rattle.triple.specs.declared.orientation.Recipe.{Recipe}
 use Rattle.triple.specs.declared.refusal.Refusal.{Refusal}
-use Rattle.triple.specs.Refusals.{told, refused, number_of}
+use Rattle.triple.specs.Refusals.{told, refused, number_of, said}
 use Rattle.triple.specs.Domain.{position_count}
 use Rattle.triple.specs.Orientations.{recipe_of, place_from, curve_place}
-use Rattle.triple.proofs.OrientationLaws.{place_small, place_is, motif_fits}
+use Rattle.triple.proofs.OrientationLaws.{place_is, motif_fits}
 use Rattle.lsystem.specs.declared.Position.{Position}
 use Rattle.lsystem.specs.declared.Located.{Located}
-use Rattle.lsystem.specs.declared.lookup.PositionAnswer.{PositionAnswer}
-use Rattle.lsystem.specs.Answers.{said_located, said_position}
+use Rattle.lsystem.specs.Answers.{said_position}
 use Rattle.lsystem.specs.Cells.{position_of}
 use Rattle.lsystem.specs.Looks.{located_of}
 use Rattle.lsystem.proofs.LookLaws.{position_said}
@@ -41,15 +40,15 @@ told_asked o r t p e =
     let found = sym (n.finds t a.2) ∙ sym (position_good o r a.0 a.1 t a.2) ∙ e in
     record { orientation = a.0; resolution = a.1; position = subst (λ s. s < 4 ^ r) (same found) (n.small t a.2) }
 
-module _ (o r : ℕ) (t : Triple) (a : PositionAnswer) (ea : said_located a ≡ located_of o r t) where
+module _ (o r : ℕ) (t : Triple) (a : Result Located Refusal) (ea : said a ≡ located_of o r t) where
   found : said_position a ≡ position_of o r t
   found = position_said o r t a ea
 
-  pub reached_refused : {e : Refusal} → a ≡ PositionAnswer.Refused e → refused (number_of e) ≡ node_of o r t
+  pub reached_refused : {e : Refusal} → a ≡ Err e → refused (number_of e) ≡ node_of o r t
   unfolding node_of
   reached_refused m = rw (sym found ∙ ap said_position m)
 
-  module _ {l : Located} (m : a ≡ PositionAnswer.At l) where
+  module _ {l : Located} (m : a ≡ Ok l) where
     asked : Asked o r l.position.s
     asked = told_asked o r t l.position (sym found ∙ ap said_position m)
 
@@ -75,11 +74,6 @@ module _ (o r s : ℕ) (k : r ≤ 30) (l : s < 4 ^ r) {w : Recipe} (ew : w ≡ r
     on_curve : place ≡ curve_place o r s
     on_curve = place_is o ew r s k ec e
 
-    pub fours_fit : Fits w64 (4 * place)
-    fours_fit =
-        let p : 4 ^ r ≤ 4 ^ 30 = N.pow-le-pow_right {n = 4} (omega arith) {i = r} {j = 30} k in
-        record { fits = omega (arith, p, on_curve, place_small o r s l) }
-
     module _ {p : Place} (ep : p ≡ descended r (4 * place) (at_origin (2 * w.motif))) where
       pub end_exact : Exact p
       end_exact = rw ep (room_exact _ (room_wider _ 0 (end_room (2 * w.motif) r (4 * place) start_small k)))
@@ -92,4 +86,4 @@ module _ (o r s : ℕ) (k : r ≤ 30) (l : s < 4 ^ r) {w : Recipe} (ew : w ≡ r
           ∙ ap frame_of_place (ep ∙ ap (λ (w : Recipe). descended r (4 * place) (at_origin (2 * w.motif))) ew)
           ∙ sym (frame_is o r s (4 * place) k l fours)
 
-pub ruleset arriving = (motif_fits, start_small, fours_fit, end_exact, below_is)
+pub ruleset arriving = (motif_fits, start_small, end_exact, below_is)

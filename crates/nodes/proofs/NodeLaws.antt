@@ -1,7 +1,7 @@
 -- Frames and nodes: which are good, and where they stand in the descent.
-use Rattle.std.proofs.Common.{◌≡◌, ℕ, zero, suc, ◌+◌, ◌*◌, ◌/◌, ◌%◌, ◌^◌, ◌<◌, ◌≤◌, Bool, true, false, not, ◌&&◌, T, eqb, ltb, leb, ℤ, nat_abs, sym, refl, ap, ◌∙◌, arith, lit≤, ltb→lt, leb→le, w64, Fits, SFits, le-leb}
+use Rattle.std.proofs.Common.{◌≡◌, ℕ, zero, suc, ◌+◌, ◌*◌, ◌/◌, ◌%◌, ◌^◌, ◌<◌, ◌≤◌, true, false, ◌&&◌, T, eqb, ltb, leb, ℤ, nat_abs, sym, refl, ap, ◌∙◌, arith, lit≤, ltb→lt, leb→le, w64, Fits, SFits, le-leb}
 use native.Mathlib.Nat as N
-use borrow.Author.Tests.{lt-leb, not-true, not-false}
+use borrow.Author.Tests.{lt-leb}
 use lib.Ieee.{Float, binary64, of_int, to_signed, in_float, in_signed}
 use lib.Ieee.Casts.{to_signed_in}
 use mir.ValLaws.{to_z-of_z}
@@ -18,27 +18,15 @@ use Rattle.nodes.specs.Nodes.{good_position, good_frame, good_node, can_step, is
 use Rattle.nodes.specs.Inside.Descents.{place_of_frame, frame_of_place, Room, Exact}
 use Rattle.nodes.proofs.NodePositions.{GoodPosition, position_of_lem}
 
--- ---- the tests of a frame, in their order
+-- ---- a frame that is not good
 module _ (n : Frame) where
   pub motif_high : 13 < n.motif → false ≡ good_frame n
   unfolding good_frame
   motif_high h = rw (lt-leb n.motif 13 h)
 
-  module _ (m : n.motif ≤ 13) where
-    pub flip_high : 1 < n.flip → false ≡ good_frame n
-    unfolding good_frame
-    flip_high h = rw (le-leb n.motif 13 m, lt-leb n.flip 1 h)
-
-    module _ (f : n.flip ≤ 1) (a : Bool) (ea : a ≡ good_position n.pos_a) where
-      pub bad_first : not a ≡ true → false ≡ good_frame n
-      unfolding good_frame
-      bad_first h = rw (le-leb n.motif 13 m, le-leb n.flip 1 f, ← ea, not-true a h)
-
-      pub good_first : not a ≡ false → (b : Bool) → b ≡ good_position n.pos_b → b ≡ good_frame n
-      unfolding good_frame
-      good_first h b eb = rw (le-leb n.motif 13 m, le-leb n.flip 1 f, ← ea, not-false a h) eb
-
-pub ruleset goodness = (motif_high, flip_high, bad_first, good_first)
+  pub flip_high : n.motif ≤ 13 → 1 < n.flip → false ≡ good_frame n
+  unfolding good_frame
+  flip_high m h = rw (le-leb n.motif 13 m, lt-leb n.flip 1 h)
 
 -- ---- what a good frame has
 pub record Good (n : Frame) : Type 0 where
@@ -63,33 +51,6 @@ good_of n e =
       a = position_of_lem n.pos_a (both_right (m && f) a u);
       b = position_of_lem n.pos_b (both_right (m && f && a) b t);
     }
-
--- ---- the tests of a node
-module _ (n : Node) where
-  pub orientation_high : 5 < n.orientation → false ≡ good_node n
-  unfolding good_node
-  orientation_high h = rw (lt-leb n.orientation 5 h)
-
-  module _ (o : n.orientation ≤ 5) where
-    pub resolution_high : 30 < n.resolution → false ≡ good_node n
-    unfolding good_node
-    resolution_high h = rw (le-leb n.orientation 5 o, lt-leb n.resolution 30 h)
-
-    pub by_frame : n.resolution ≤ 30 → {b : Bool} → b ≡ good_frame n.frame → b ≡ good_node n
-    unfolding good_node
-    by_frame h e = rw (le-leb n.orientation 5 o, le-leb n.resolution 30 h) e
-
-  -- whether it has children
-  module _ {g : Bool} (eg : g ≡ good_node n) where
-    pub no_step : not g ≡ true → false ≡ can_step n
-    unfolding can_step
-    no_step h = rw (← eg, not-true g h)
-
-    pub by_resolution : not g ≡ false → {b : Bool} → b ≡ ltb n.resolution 30 → b ≡ can_step n
-    unfolding can_step
-    by_resolution h e = rw (← eg, not-false g h) e
-
-pub ruleset node_goodness = (orientation_high, resolution_high, by_frame, no_step, by_resolution)
 
 -- what one has that has children
 pub record Steps (n : Node) : Type 0 where

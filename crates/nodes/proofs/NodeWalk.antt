@@ -1,5 +1,6 @@
 -- THE WALK: from the node of the orientation's own axiom, r steps by the digits of s, highest first, reach exactly the cell
 -- that s names. A frame is a place of the table's descent, and a step goes one level down; what the descent reaches is drawn (`CellLaws`).
+use Rattle.std.specs.Prelude.{Option, Some, None}
 use Rattle.std.proofs.Common.{◌≡◌, ℕ, zero, suc, ◌+◌, ◌-◌, ◌*◌, ◌/◌, ◌%◌, ◌^◌, ◌<◌, ◌≤◌, Bool, true, false, cond, T, eqb, leb, List, [], ◌∷◌, ℤ, pos, negsuc, ◌+ℤ◌, ◌*ℤ◌, nat_abs, sym, refl, ap, ◌∙◌, arith, lit≤, le-ltb, lt-ltb, eq-eqb, ne_eqb, le-leb}
 use native.Mathlib.Nat as N
 use borrow.Author.Tests.{lt-leb}
@@ -8,7 +9,6 @@ use Rattle.whole.proofs.Parts.{up, dn, add_parts, mul_up, mul_dn}
 use Rattle.whole.proofs.Floats.{int_back}
 use Rattle.triple.specs.Refusals.{told, ◌>>=◌}
 use Rattle.triple.specs.Orientations.{axiom_motif, is_backward, place_from, curve_place}
-use Rattle.turtle.specs.declared.letter.Flavor.{Flavor}
 use Rattle.turtle.specs.declared.walk.DrawnCell.{DrawnCell}
 use Rattle.turtle.specs.Plane.{origin}
 use Rattle.tables.specs.Table.{bit, state_of, flavor_number, leaf_of as drawnLeaf}
@@ -132,11 +132,11 @@ cell_same c e h =
     let flavor = same c.flavor e.flavor (ap (λ l. l.flavor) h) in
     λ i. record { sum = sum i; flavor = flavor i }
   where
-    same : (f g : Flavor) → flavor_number f ≡ flavor_number g → f ≡ g
-    same (Flavor.Of f) (Flavor.Of g) e = cc
-    same (Flavor.Of f) Flavor.None e = cc
-    same Flavor.None (Flavor.Of g) e = cc
-    same Flavor.None Flavor.None e = refl
+    same : (f g : Option ℕ) → flavor_number f ≡ flavor_number g → f ≡ g
+    same (Some f) (Some g) e = cc
+    same (Some f) None e = cc
+    same None (Some g) e = cc
+    same None None e = refl
 
 -- ---- the frame below the cell that s names is the place that the digits of s descend to; q has one digit more
 module _ (o : ℕ) where

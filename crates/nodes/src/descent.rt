@@ -1,11 +1,13 @@
 // From position to place: the descent over A5's table by the digits of a position.
-ghost use Rattle.std.specs.Prelude.{◌≡◌, ◌^◌, ◌<◌, ◌≤◌, pos, ◌+ℤ◌, ◌*ℤ◌, unsigned_abs};
+ghost use Rattle.std.specs.Prelude.{◌≡◌, ◌*◌, ◌^◌, ◌<◌, ◌≤◌};
 ghost use Rattle.nodes.specs.Inside.Descents.{down, leaf_from, descended, at_origin, Room};
 
-use crate::words::{leaf_of, step_of};
+use crate::words::{Digit, leaf_of, step_of};
 use turtle::AB;
 
-// A state, and where its frame starts, in units of its level.
+// A state, and where its frame starts, in units of its level; or a child's, in units of its parent's frame.
+// Stays with no bound on the state: `down` and `descended` of specs/ go on from a place of any, and a number with a type would be
+// wrapped and taken apart again at each look.
 #[derive(Clone, Copy)]
 pub(crate) struct Place {
     pub a: i64,
@@ -20,57 +22,41 @@ pub(crate) struct Drawn {
     pub flavor: u8,
 }
 
-fn twice_plus(place: i64, offset: i64) -> i64
-    requires { (unsigned_abs place ≤ 2 ^ 37) × (unsigned_abs offset ≤ 32) }
-    ensures { result ≡ pos 2 *ℤ place +ℤ offset }
-{
-    2 * place + offset
-}
-
-fn thrice_plus(place: i64, offset: i64) -> i64
-    requires { (unsigned_abs place ≤ 2 ^ 37) × (unsigned_abs offset ≤ 32) }
-    ensures { result ≡ pos 3 *ℤ place +ℤ offset }
-{
-    3 * place + offset
-}
-
 impl Place {
     // One level down, a place doubles.
-    pub(crate) fn down(self, digit: u64) -> Place
-        requires { (Room (2 ^ 37) 0 self) × (digit < 4) }
-        ensures { result ≡ down self digit }
+    pub(crate) fn down(self, digit: Digit) -> Place
+        requires { Room (2 ^ 37) 0 self }
+        ensures { result ≡ down self digit.value }
     {
         let t = step_of(self.state, digit);
         Place {
-            a: twice_plus(self.a, t.a),
-            b: twice_plus(self.b, t.b),
+            a: 2 * self.a + t.a,
+            b: 2 * self.b + t.b,
             state: t.state,
         }
     }
 
     // The leaf of a digit: a corner sum has three corners.
-    pub(crate) fn leaf(self, digit: u64) -> Drawn
-        requires { (Room (2 ^ 37) 0 self) × (digit < 4) }
-        ensures { result ≡ leaf_from self digit }
+    pub(crate) fn leaf(self, digit: Digit) -> Drawn
+        requires { Room (2 ^ 37) 0 self }
+        ensures { result ≡ leaf_from self digit.value }
     {
-        let l = leaf_of(self.state, digit);
+        let Drawn { sum, flavor } = leaf_of(self.state, digit);
         Drawn {
-            sum: AB::new(thrice_plus(self.a, l.a), thrice_plus(self.b, l.b)),
-            flavor: l.flavor,
+            sum: AB::new(3 * self.a + sum.a, 3 * self.b + sum.b),
+            flavor,
         }
     }
 }
 
-// Down from a state at the origin by the digits `levels` to 1 of s.
-pub(crate) fn descend(state: u64, levels: u64, s: u64) -> Place
+// Down from a state at the origin by the digits of a place, highest first.
+pub(crate) fn descend(state: u64, levels: u64, place: u64) -> Place
     requires { (state < 28) × (levels ≤ 30) }
-    ensures { result ≡ descended levels s (at_origin state) }
+    ensures { result ≡ descended levels (4 * place) (at_origin state) }
 {
     let mut p = Place { a: 0, b: 0, state };
-    let mut k = levels;
-    while k > 0 {
-        p = p.down((s >> (2 * k)) % 4);
-        k -= 1;
+    for k in (0..levels).rev() {
+        p = p.down(Digit::last(place >> (2 * k)));
     }
     p
 }

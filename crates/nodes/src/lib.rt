@@ -7,19 +7,20 @@
 ghost use Rattle.std.specs.Prelude.{◌≡◌, ◌^◌, ◌<◌, ◌≤◌, true, ◌==◌, unsigned_abs};
 ghost use Rattle.triple.specs.Orientations.{moved_by};
 ghost use Rattle.turtle.specs.Plane.{ab};
-ghost use Rattle.nodes.specs.Nodes.{good_position, good_frame, good_node, can_step, frame, bounded, node_below, cell_below_of, step_to, child_step_of, frame_at, node_of};
-ghost use Rattle.nodes.specs.NodeAnswers.{axiom_node_of, said_node, said_reached, said_child, said_bounded};
+ghost use Rattle.nodes.specs.Nodes.{good_position, good_frame, good_node, can_step, frame, bounded, node_below, cell_below_of, child_step_of, frame_at, node_of};
+ghost use Rattle.nodes.specs.NodeAnswers.{axiom_node_of, said_bounded};
 ghost use Rattle.nodes.specs.Inside.Descents.{place_of_frame, frame_of_place, named_by, Exact};
+ghost use Rattle.triple.specs.Refusals.{said};
 
 use crate::descent::{Drawn, Place, descend};
+use crate::words::Digit;
 use lsystem::Position;
 use lsystem::cell::Cell;
-use lsystem::lookup::{PositionAnswer, triple_to_s};
+use lsystem::lookup::triple_to_s;
 use triple::domain::{position_count, row_count};
 use triple::orientation::{GREATEST_ORIENTATION, place_from, recipe_of};
 use triple::refusal::Refusal;
 use triple::{Triple, in_bounds_wide};
-use turtle::corner::TripleAnswer;
 
 pub mod descent;
 pub mod words;
@@ -59,24 +60,6 @@ pub struct Reached {
     pub node: Node,
 }
 
-#[derive(Clone, Copy)]
-pub enum NodeAnswer {
-    Node(Node),
-    Refused(Refusal),
-}
-
-#[derive(Clone, Copy)]
-pub enum ReachedAnswer {
-    Reached(Reached),
-    Refused(Refusal),
-}
-
-#[derive(Clone, Copy)]
-pub enum ChildAnswer {
-    Child(ChildStep),
-    Refused(Refusal),
-}
-
 impl Frame {
     pub const GREATEST_MOTIF: u64 = 13;
 
@@ -109,19 +92,14 @@ impl Frame {
     pub fn is_good(self) -> bool
         ensures { result ≡ good_frame self }
     {
-        if self.motif > Self::GREATEST_MOTIF {
-            return false;
-        }
-        if self.flip > Self::GREATEST_FLIP {
-            return false;
-        }
-        if !is_position(self.pos_a) {
-            return false;
-        }
-        is_position(self.pos_b)
+        self.motif <= Self::GREATEST_MOTIF
+            && self.flip <= Self::GREATEST_FLIP
+            && is_position(self.pos_a)
+            && is_position(self.pos_b)
     }
 
     // Where a good frame stands in the descent.
+    // Stays two functions, this and `at`: each requires something of its argument, which `From` does not, and none refuses.
     fn place(self) -> Place
         requires { good_frame self ≡ true }
         ensures { result ≡ place_of_frame self }
@@ -157,72 +135,62 @@ impl Node {
     pub fn is_good(self) -> bool
         ensures { result ≡ good_node self }
     {
-        if self.orientation > GREATEST_ORIENTATION {
-            return false;
-        }
-        if self.resolution > Triple::GREATEST_RESOLUTION {
-            return false;
-        }
-        let frame = self.frame;
-        frame.is_good()
+        self.orientation <= GREATEST_ORIENTATION
+            && self.resolution <= Triple::GREATEST_RESOLUTION
+            && self.frame.is_good()
     }
 
     // Whether it is good and has children: below the last resolution there are none.
     pub fn can_step(self) -> bool
         ensures { result ≡ can_step self }
     {
-        if !self.is_good() {
-            return false;
-        }
-        self.resolution < Triple::GREATEST_RESOLUTION
+        self.is_good() && self.resolution < Triple::GREATEST_RESOLUTION
     }
 
     // The child with a digit of the curve, that is the last digit of its position: its cell, one
     // resolution down, and the node below it.
-    pub fn child(self, digit: u8) -> ChildAnswer
-        ensures { said_child result ≡ child_step_of self digit }
+    pub fn child(self, digit: u8) -> Result<ChildStep, Refusal>
+        ensures { said result ≡ child_step_of self digit }
     {
         if !self.can_step() {
-            return ChildAnswer::Refused(Refusal::Node);
+            return Err(Refusal::Node);
         }
         if digit > 3 {
-            return ChildAnswer::Refused(Refusal::Digit);
+            return Err(Refusal::Digit);
         }
         let recipe = recipe_of(self.orientation);
-        let d = place_from(recipe.backward, 4, digit as u64);
-        self.step_to(d)
-    }
-
-    // The child at a place of the node's four.
-    fn step_to(self, d: u64) -> ChildAnswer
-        requires { (can_step self ≡ true) × (d < 4) }
-        ensures { said_child result ≡ step_to self d }
-    {
-        let found = self.cell_below(d);
-        let Bounded::In(cell) = found else {
-            return ChildAnswer::Refused(Refusal::Bounds);
+        let digit = Digit {
+            value: place_from(recipe.backward, 4, digit as u64),
         };
-        ChildAnswer::Child(ChildStep {
+        let found = self.cell_below(digit);
+        let Some(cell) = found else {
+            return Err(Refusal::Bounds);
+        };
+        Ok(ChildStep {
             cell,
-            node: self.below(d),
+            node: self.below(digit),
         })
     }
 
-    fn cell_below(self, d: u64) -> Bounded
-        requires { (can_step self ≡ true) × (d < 4) }
-        ensures { said_bounded result ≡ cell_below_of self d }
+    // The cell of the child at a place of the node's four.
+    fn cell_below(self, place: Digit) -> Option<Cell>
+        requires { can_step self ≡ true }
+        ensures { said_bounded result ≡ cell_below_of self place.value }
     {
         let recipe = recipe_of(self.orientation);
-        let frame = self.frame;
-        cell_within(recipe.shifted, self.resolution + 1, frame.place().leaf(d))
+        cell_within(
+            recipe.shifted,
+            self.resolution + 1,
+            self.frame.place().leaf(place),
+        )
     }
 
-    fn below(self, d: u64) -> Self
-        requires { (can_step self ≡ true) × (d < 4) }
-        ensures { result ≡ node_below self d }
+    // The node below that cell.
+    fn below(self, place: Digit) -> Self
+        requires { can_step self ≡ true }
+        ensures { result ≡ node_below self place.value }
     {
-        let frame = self.frame;
-        let next = Frame::at(frame.place().down(d));
+        let next = Frame::at(self.frame.place().down(place));
         Self::new(self.orientation, self.resolution + 1, next)
     }
 }
@@ -232,30 +200,26 @@ impl Node {
 fn is_position(x: f64) -> bool
     ensures { result ≡ good_position x }
 {
-    if x >= -Frame::LIMIT {
-        if x <= Frame::LIMIT {
-            let t = std::num::truncating_f64_to_i64(x);
-            let back = t as f64;
-            if f64::to_bits(back) == f64::to_bits(x) {
-                return t % 4 == 0;
-            }
-        }
+    if x >= -Frame::LIMIT && x <= Frame::LIMIT {
+        let t = std::num::truncating_f64_to_i64(x);
+        return f64::to_bits(t as f64) == f64::to_bits(x) && t % 4 == 0;
     }
     false
 }
 
 // The node of the orientation's own axiom, at resolution 0, from which a walk down starts.
-pub fn axiom_node(orientation: u8) -> NodeAnswer
-    ensures { said_node result ≡ axiom_node_of orientation }
+pub fn axiom_node(orientation: u8) -> Result<Node, Refusal>
+    ensures { said result ≡ axiom_node_of orientation }
 {
     if orientation > GREATEST_ORIENTATION {
-        return NodeAnswer::Refused(Refusal::Orientation);
+        return Err(Refusal::Orientation);
     }
     let recipe = recipe_of(orientation);
-    NodeAnswer::Node(Node::new(orientation, 0, Frame::whole(recipe.motif, 0, 0, 0)))
+    Ok(Node::new(orientation, 0, Frame::whole(recipe.motif, 0, 0, 0)))
 }
 
 // Three coordinates that may not fit an i32.
+// Stays a type beside `Triple`, whose fields are i32 for C and for every crate: of one type over both the public fields would change.
 #[derive(Clone, Copy)]
 struct Wide {
     x: i64,
@@ -281,30 +245,21 @@ fn moved_wide(moves: bool, resolution: u8, t: Triple) -> Wide
     Wide { x, y, z }
 }
 
-#[derive(Clone, Copy)]
-enum Bounded {
-    In(Cell),
-    Out,
-}
-
 // A drawn cell, if it is in bounds. Each whose corner sum has no triple is out of them.
-fn cell_within(moves: bool, resolution: u8, drawn: Drawn) -> Bounded
+fn cell_within(moves: bool, resolution: u8, drawn: Drawn) -> Option<Cell>
     requires { (0 < resolution) × (resolution ≤ 30) }
     ensures { said_bounded result ≡ bounded resolution (named_by moves resolution drawn) }
 {
     let sum = drawn.sum;
     let found = sum.to_triple();
-    let TripleAnswer::At(t) = found else {
-        return Bounded::Out;
+    let Ok(t) = found else {
+        return None;
     };
-    let w = moved_wide(moves, resolution, t);
-    let x = w.x;
-    let y = w.y;
-    let z = w.z;
+    let Wide { x, y, z } = moved_wide(moves, resolution, t);
     if !in_bounds_wide(x, y, z, resolution) {
-        return Bounded::Out;
+        return None;
     }
-    Bounded::In(Cell {
+    Some(Cell {
         triple: Triple::new(x as i32, y as i32, z as i32),
         flavor: drawn.flavor,
     })
@@ -312,28 +267,22 @@ fn cell_within(moves: bool, resolution: u8, drawn: Drawn) -> Bounded
 
 // A cell's position and flavor, and the node below it: where a walk down to the cell by `child` would
 // arrive, in one descent.
-pub fn triple_to_curve_node(orientation: u8, resolution: u8, t: Triple) -> ReachedAnswer
-    ensures { said_reached result ≡ node_of orientation resolution t }
+pub fn triple_to_curve_node(orientation: u8, resolution: u8, t: Triple) -> Result<Reached, Refusal>
+    ensures { said result ≡ node_of orientation resolution t }
 {
-    let found = triple_to_s(orientation, resolution, t);
-    match found {
-        PositionAnswer::At(l) => {
-            let position = l.position;
-            let frame = frame_below(orientation, resolution, position.s);
-            let node = Node::new(orientation, resolution, frame);
-            ReachedAnswer::Reached(Reached { position, node })
-        }
-        PositionAnswer::Refused(e) => ReachedAnswer::Refused(e),
-    }
+    let l = triple_to_s(orientation, resolution, t)?;
+    let position = l.position;
+    let frame = frame_below(orientation, resolution, position.s);
+    let node = Node::new(orientation, resolution, frame);
+    Ok(Reached { position, node })
 }
 
-// The frame below the cell that s names. The descent reads the digits from the second on, so that
-// four times a place has all of the place's own.
+// The frame below the cell that s names.
 fn frame_below(orientation: u8, resolution: u8, s: u64) -> Frame
     requires { (resolution ≤ 30) × (s < 4 ^ resolution) }
     ensures { result ≡ frame_at orientation resolution s }
 {
     let recipe = recipe_of(orientation);
     let place = place_from(recipe.backward, position_count(resolution), s);
-    Frame::at(descend(2 * recipe.motif, resolution as u64, 4 * place))
+    Frame::at(descend(2 * recipe.motif, resolution as u64, place))
 }

@@ -1,10 +1,10 @@
 -- What is written is read back, what is read is what would be written, and every other text is refused.
+use Rattle.std.specs.Prelude.{Option, Some, None}
 use native.Mathlib.Omega.{arith}
 use mathlib.Core.Path.{◌≡◌, refl, sym, ap, ap₂, ◌∙◌, subst}
 use mathlib.Core.Logic.{⊎_elim}
 use mathlib.Core.Bool.{Bool, true, false, not, ◌&&◌}
 use mathlib.Core.List.{List, [], ◌∷◌, ◌++◌, append_assoc}
-use mathlib.Core.Option.{Option, some, none}
 use Prim.Native.Nat.{ℕ, ◌+◌, ◌≤◌, ◌<◌, ◌^◌}
 use borrow.Author.Tests.{not-false, eq-eqb, eqb-true, le-ltb, ltb-false}
 use lib.Dec.{eqb, ltb}
@@ -182,8 +182,8 @@ only_test false a = is_told
 
 only_read : {A : Type 0} (o : Option A) → Only 27 (readable o)
 unfolding number_of
-only_read none = is_refused
-only_read (some a) = is_told
+only_read None = is_refused
+only_read (Some a) = is_told
 
 only_corner : (s : List ℕ) (at : ℕ) → Only 27 (corner_at s at)
 unfolding corner_at

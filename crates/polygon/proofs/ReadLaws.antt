@@ -3,7 +3,6 @@ use native.Mathlib.Omega.{arith}
 use mathlib.Core.Path.{◌≡◌, refl, sym, ap, ◌∙◌}
 use mathlib.Core.Bool.{Bool, true, false, not, cond, ◌&&◌}
 use mathlib.Core.List.{List, [], ◌∷◌}
-use mathlib.Core.Option.{Option, some, none}
 use Prim.Native.Nat.{ℕ, suc, ◌+◌, ◌≤◌, ◌<◌, ◌^◌}
 use native.Mathlib.Numerals.{add-one}
 use borrow.Author.Rules.{sfits_of}
@@ -16,6 +15,7 @@ use lib.Seq.{drop-cons, length-take-le}
 use mir.Syntax.{w32, w64}
 use mir.Val.{SFits, Fits, to_z, of_z}
 use mir.ValLaws.{to_z-of_z}
+use Rattle.std.specs.Prelude.{Some, None, Option}
 use Rattle.whole.specs.Tests.{equal, pass}
 use Rattle.whole.proofs.Bools.{is_true, is_false}
 use Rattle.whole.proofs.Equals.{equal_sound, is_equal}
@@ -29,8 +29,6 @@ use Rattle.triple.specs.Domain.{greatest_resolution}
 use Rattle.triple.proofs.RefusalLaws.{never, passed, told_same, stepped}
 use Rattle.text.specs.Decimals.{integer, decimal_at}
 use Rattle.text.specs.Puts.{Put}
-use Rattle.text.specs.declared.place.Placed.{Placed}
-use Rattle.text.specs.Answers.{said_placed}
 use Rattle.text.proofs.DecimalLaws.{some_digit}
 use Rattle.text.proofs.PlaceLaws.{past_unread}
 use Rattle.text.proofs.ReadBack.{decimal_read_only}
@@ -38,10 +36,7 @@ use Rattle.turtle.specs.declared.AB.{AB}
 use Rattle.turtle.specs.Plane.{ab}
 use Rattle.turtle.specs.Corners.{fits32, ThreeI32}
 use Rattle.turtle.proofs.CornerLaws.{triple, triple_is, sum_good, narrow_of, wide_x, wide_y, wide_z}
-use Rattle.polygon.specs.declared.reading.Corner.{Corner}
-use Rattle.polygon.specs.declared.reading.Spelled.{Spelled}
 use Rattle.polygon.specs.Polygons.{polygon_text, readable, corner_at, parity_from, starting_at, narrow, same_text, spelled_cell, cell_of_wkt}
-use Rattle.polygon.specs.Inside.Reading.{said_corner, said_spelled}
 use Rattle.polygon.proofs.SpellLaws.{spelled_most, spelled_is}
 
 -- ---- a corner at a place
@@ -51,7 +46,7 @@ integer_some (pos n) = some_digit n
 integer_some (negsuc n) = omega (arith, some_digit (suc n))
 
 -- the place after a number is within the text
-place_within : (s : List ℕ) (at : ℕ) (z : ℤ) (next : ℕ) → decimal_at s at ≡ some (z, next) → next ≤ length s
+place_within : (s : List ℕ) (at : ℕ) (z : ℤ) (next : ℕ) → decimal_at s at ≡ Some (z, next) → next ≤ length s
 place_within s at z next e =
     let r = decimal_read_only s at z next e in
     omega (arith, r.0, ap length r.1, length-drop at s, length-drop next s, length-append (integer z) (drop next s), integer_some z)
@@ -60,26 +55,26 @@ pub corner_past : (s : List ℕ) (at : ℕ) → length s < at → refused (numbe
 unfolding corner_at
 corner_past s at h = rw (sym (past_unread s at h))
 
-module _ (s : List ℕ) (at : ℕ) (first : Placed) (ef : said_placed first ≡ decimal_at s at) where
-  pub first_unread : first ≡ Placed.Unread → refused (number_of Is.Polygon) ≡ corner_at s at
+module _ (s : List ℕ) (at : ℕ) (first : Option (ℤ × ℕ)) (ef : first ≡ decimal_at s at) where
+  pub first_unread : first ≡ None → refused (number_of Is.Polygon) ≡ corner_at s at
   unfolding corner_at
   first_unread m = rw (sym ef, m)
 
-  module _ {a : ℤ} {next : ℕ} (m : first ≡ Placed.Decimal a next) where
-    here : decimal_at s at ≡ some (a, next)
-    here = sym ef ∙ ap said_placed m
+  module _ {a : ℤ} {next : ℕ} (m : first ≡ Some (a, next)) where
+    here : decimal_at s at ≡ Some (a, next)
+    here = sym ef ∙ m
 
-    module _ (second : Placed) (es : said_placed second ≡ decimal_at s (next + 1)) where
-      pub second_unread : second ≡ Placed.Unread → refused (number_of Is.Polygon) ≡ corner_at s at
+    module _ (second : Option (ℤ × ℕ)) (es : second ≡ decimal_at s (next + 1)) where
+      pub second_unread : second ≡ None → refused (number_of Is.Polygon) ≡ corner_at s at
       unfolding corner_at
       second_unread n = rw (here, sym es, n)
 
-      pub corner_read : {b : ℤ} {end : ℕ} → second ≡ Placed.Decimal b end → {p : AB} → p ≡ ab a b → told (p, end) ≡ corner_at s at
+      pub corner_read : {b : ℤ} {end : ℕ} → second ≡ Some (b, end) → {p : AB} → p ≡ ab a b → told (p, end) ≡ corner_at s at
       unfolding corner_at
       corner_read n e = rw (here, sym es, n, e)
 
-pub next_fits : {a : ℤ} {next : ℕ} {first : Placed} → first ≡ Placed.Decimal a next → (s : List ℕ) (at : ℕ) → said_placed first ≡ decimal_at s at → length s < 2 ^ 63 → Fits w64 (next + 1)
-next_fits {a} {next} m s at e h = record { fits = omega (arith, place_within s at a next (sym e ∙ ap said_placed m)) }
+pub next_fits : {a : ℤ} {next : ℕ} {first : Option (ℤ × ℕ)} → first ≡ Some (a, next) → (s : List ℕ) (at : ℕ) → first ≡ decimal_at s at → length s < 2 ^ 63 → Fits w64 (next + 1)
+next_fits {a} {next} m s at e h = record { fits = omega (arith, place_within s at a next (sym e ∙ m)) }
 
 -- the place after a corner is within the text
 pub corner_within : (s : List ℕ) (at : ℕ) (p : AB) (next : ℕ) → corner_at s at ≡ told (p, next) → next ≤ length s
@@ -93,9 +88,9 @@ corner_within s at p next e =
     told_next : {q : AB} {m : ℕ} → ◌≡◌ {A = Told (AB × ℕ)} (told (q, m)) (told (p, next)) → m ≡ next
     told_next f = ap (λ (x : AB × ℕ). x.1) (told_same f)
 
-    read_some : {A : Type 0} (o : Option A) {a : A} → readable o ≡ told a → o ≡ some a
-    read_some none f = never f
-    read_some (some x) f = cc
+    read_some : {A : Type 0} (o : Option A) {a : A} → readable o ≡ told a → o ≡ Some a
+    read_some None f = never f
+    read_some (Some x) f = cc
 
 pub ruleset corner_at_lem = (corner_past, first_unread, next_fits, second_unread, corner_read)
 
@@ -229,39 +224,39 @@ module _ (t : Triple) (good : good_sum t ≡ true) (mx : mag t.x < 2 ^ 31) (my :
 pub ruleset own_polygon = (own_most, own_counted, own_same)
 
 -- ---- the triple of a text
-pub second_fits : {p : AB} {next : ℕ} {first : Corner} → first ≡ Corner.At p next → (text : List ℕ) (at : ℕ) → said_corner first ≡ corner_at text at → length text < 2 ^ 63 → Fits w64 (next + 2)
-second_fits {p} {next} m text at e h = record { fits = omega (arith, corner_within text at p next (sym e ∙ ap said_corner m)) }
+pub second_fits : {p : AB} {next : ℕ} {first : Option (AB × ℕ)} → first ≡ Some (p, next) → (text : List ℕ) (at : ℕ) → readable first ≡ corner_at text at → length text < 2 ^ 63 → Fits w64 (next + 2)
+second_fits {p} {next} m text at e h = record { fits = omega (arith, corner_within text at p next (sym e ∙ ap readable m)) }
 
 module _ (text : List ℕ) where
   pub too_short : length text < 10 → refused (number_of Is.Polygon) ≡ spelled_cell text
   unfolding spelled_cell
   too_short h = rw (sym (corner_past text 10 h))
 
-  module _ (first : Corner) (ef : said_corner first ≡ corner_at text 10) where
-    pub first_none : first ≡ Corner.Unread → refused (number_of Is.Polygon) ≡ spelled_cell text
+  module _ (first : Option (AB × ℕ)) (ef : readable first ≡ corner_at text 10) where
+    pub first_none : first ≡ None → refused (number_of Is.Polygon) ≡ spelled_cell text
     unfolding spelled_cell
     first_none m = rw (sym ef, m)
 
-    module _ {p : AB} {next : ℕ} (m : first ≡ Corner.At p next) where
+    module _ {p : AB} {next : ℕ} (m : first ≡ Some (p, next)) where
       here_first : corner_at text 10 ≡ told (p, next)
-      here_first = sym ef ∙ ap said_corner m
+      here_first = sym ef ∙ ap readable m
 
-      module _ (second : Corner) (es : said_corner second ≡ corner_at text (next + 2)) where
-        pub second_none : second ≡ Corner.Unread → refused (number_of Is.Polygon) ≡ spelled_cell text
+      module _ (second : Option (AB × ℕ)) (es : readable second ≡ corner_at text (next + 2)) where
+        pub second_none : second ≡ None → refused (number_of Is.Polygon) ≡ spelled_cell text
         unfolding spelled_cell
         second_none n = rw (here_first, sym es, n)
 
-        module _ {q : AB} {end : ℕ} (n : second ≡ Corner.At q end) {s : ℕ} (e : s ≡ parity_from p q) (started : Spelled) (et : said_spelled started ≡ narrow (starting_at s p)) where
-          here_start : narrow (starting_at (parity_from p q) p) ≡ said_spelled started
+        module _ {q : AB} {end : ℕ} (n : second ≡ Some (q, end)) {s : ℕ} (e : s ≡ parity_from p q) (started : Option Triple) (et : readable started ≡ narrow (starting_at s p)) where
+          here_start : narrow (starting_at (parity_from p q) p) ≡ readable started
           here_start = sym (et ∙ ap (λ (k : ℕ). narrow (starting_at k p)) e)
 
-          pub start_none : started ≡ Spelled.None → refused (number_of Is.Polygon) ≡ spelled_cell text
+          pub start_none : started ≡ None → refused (number_of Is.Polygon) ≡ spelled_cell text
           unfolding spelled_cell
           start_none k = rw (here_first, sym es, n, here_start, k)
 
-          module _ {t : Triple} (k : started ≡ Spelled.Cell t) where
+          module _ {t : Triple} (k : started ≡ Some t) where
             pub cell_good : good_sum t ≡ true
-            cell_good = ap good_sum (sym (narrow_told (starting_at s p) (sym et ∙ ap said_spelled k)).1) ∙ start_good s p (parity_small p q e)
+            cell_good = ap good_sum (sym (narrow_told (starting_at s p) (sym et ∙ ap readable k)).1) ∙ start_good s p (parity_small p q e)
 
             module _ {f : Bool} (eq : f ≡ same_text text (polygon_text t)) where
               pub cell_other : not f ≡ true → refused (number_of Is.Polygon) ≡ spelled_cell text
@@ -280,12 +275,12 @@ module _ (r : ℕ) (text : List ℕ) where
   unfolding cell_of_wkt
   too_deep h = simp (lt-ltb 30 r h)
 
-  module _ (h : r ≤ 30) (spelled : Spelled) (e : said_spelled spelled ≡ spelled_cell text) where
-    pub no_polygon : spelled ≡ Spelled.None → refused (number_of Is.Polygon) ≡ cell_of_wkt r text
+  module _ (h : r ≤ 30) (spelled : Option Triple) (e : readable spelled ≡ spelled_cell text) where
+    pub no_polygon : spelled ≡ None → refused (number_of Is.Polygon) ≡ cell_of_wkt r text
     unfolding cell_of_wkt
     no_polygon m = rw (le-ltb 30 r h, sym e, m)
 
-    module _ {t : Triple} (m : spelled ≡ Spelled.Cell t) {b : Bool} (eb : b ≡ (leb r greatest_resolution && is_in_bounds r t)) where
+    module _ {t : Triple} (m : spelled ≡ Some t) {b : Bool} (eb : b ≡ (leb r greatest_resolution && is_in_bounds r t)) where
       bounds_are : is_in_bounds r t ≡ b
       bounds_are = sym (eb ∙ ap (λ (f : Bool). f && is_in_bounds r t) (le-leb r 30 h))
 

@@ -14,17 +14,16 @@ use lib.Seq.{sets-eq, take_at, length-take-le}
 use mir.Syntax.{w64}
 use mir.Val.{to_z, of_z}
 use mir.ValLaws.{to_z-of_z}
+use Rattle.std.specs.Prelude.{Result, Ok, Err}
 use Rattle.text.specs.Decimals.{integer}
 use Rattle.text.specs.Puts.{Put}
 use Rattle.text.proofs.DecimalLaws.{length_most}
 use Rattle.text.proofs.PutLaws.{put_roomy, put_short, put_kept, put_length, put_place, put_stored, put_then}
 use Rattle.triple.specs.declared.Triple.{Triple}
-use Rattle.triple.specs.declared.FlavorAnswer.{FlavorAnswer}
 use Rattle.triple.specs.declared.refusal.Refusal.{Refusal}
 use Rattle.triple.specs.declared.refusal.Refusal.TheVariants as Is
-use Rattle.triple.specs.Refusals.{Told, told, refused, refuse, number_of}
+use Rattle.triple.specs.Refusals.{Told, told, refused, refuse, number_of, said}
 use Rattle.triple.specs.Triples.{good_sum, is_in_bounds, closed_flavor, flavor_of}
-use Rattle.triple.specs.Answers.{said_flavor}
 use Rattle.triple.specs.Lent.{count_of, after_call}
 use Rattle.triple.proofs.RefusalLaws.{never}
 use Rattle.triple.proofs.LentLaws.{refused_count, refused_kept, short_count, short_kept, whole_count, whole_stored}
@@ -213,11 +212,11 @@ all_passed false true out a p = never (sym p)
 all_passed false false true a p = never (sym p)
 all_passed false false false a p = (refl, refl, refl)
 
-module _ (r : ℕ) (t : Triple) (tests : FlavorAnswer) (et : said_flavor tests ≡ flavor_of r t) (buffer : List ℕ) where
-  module _ {e : Refusal} (m : tests ≡ FlavorAnswer.Refused e) where
+module _ (r : ℕ) (t : Triple) (tests : Result ℕ Refusal) (et : said tests ≡ flavor_of r t) (buffer : List ℕ) where
+  module _ {e : Refusal} (m : tests ≡ Err e) where
     no_cell : refused (number_of e) ≡ wkt_of r t
     unfolding flavor_of wkt_of
-    no_cell = same_tests (ltb 30 r) (not (good_sum t)) (not (is_in_bounds r t)) (closed_flavor r t) (polygon_text t) (ap said_flavor (sym m) ∙ et)
+    no_cell = same_tests (ltb 30 r) (not (good_sum t)) (not (is_in_bounds r t)) (closed_flavor r t) (polygon_text t) (ap said (sym m) ∙ et)
 
     pub no_cell_refused : refused (number_of e) ≡ count_of (wkt_of r t) buffer
     no_cell_refused = refused_count buffer no_cell
@@ -225,10 +224,10 @@ module _ (r : ℕ) (t : Triple) (tests : FlavorAnswer) (et : said_flavor tests �
     pub no_cell_left : buffer ≡ after_call (wkt_of r t) buffer
     no_cell_left = refused_kept buffer no_cell
 
-  module _ {f : ℕ} (m : tests ≡ FlavorAnswer.Flavor f) where
+  module _ {f : ℕ} (m : tests ≡ Ok f) where
     past : (ltb 30 r ≡ false) × (not (good_sum t) ≡ false) × (not (is_in_bounds r t) ≡ false)
     unfolding flavor_of
-    past = all_passed (ltb 30 r) (not (good_sum t)) (not (is_in_bounds r t)) (closed_flavor r t) (ap said_flavor (sym m) ∙ et)
+    past = all_passed (ltb 30 r) (not (good_sum t)) (not (is_in_bounds r t)) (closed_flavor r t) (ap said (sym m) ∙ et)
 
     pub sum_good : good_sum t ≡ true
     sum_good = not-false (good_sum t) past.1

@@ -1,3 +1,2 @@
 -- What the contracts of private functions need.
 pub mod Sizes
-pub mod Reading

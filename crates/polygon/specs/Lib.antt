@@ -1,3 +1,2 @@
 pub mod Polygons
-pub mod Answers
 pub mod Inside

@@ -1,6 +1,5 @@
 -- A cell as a polygon of its corners, by document 02: the corners, their text, what a writer gives and what a reader answers.
-use Rattle.std.specs.Prelude.{Bool, true, false, not, ◌&&◌, cond, List, [], ◌∷◌, ◌++◌, ℕ, ◌+◌, eqb, pos, negsuc, ◌+ℤ◌, ◌-ℤ◌}
-use mathlib.Core.Option.{Option, some, none}
+use Rattle.std.specs.Prelude.{Bool, true, false, not, ◌&&◌, cond, List, [], ◌∷◌, ◌++◌, ℕ, ◌+◌, eqb, pos, negsuc, ◌+ℤ◌, ◌-ℤ◌, Option, Some, None}
 use Rattle.std.specs.Int.Signed.{quot_z}
 use Rattle.whole.specs.Tests.{equal, pass}
 use Rattle.triple.specs.declared.Triple.{Triple}
@@ -67,8 +66,8 @@ wkt_of r t =
 -- ---- the reader: the triple is taken from the text's first two corners, and its own polygon is then the text, byte for byte, or the text is none
 -- what is read, or the refusal of a text that is no cell's polygon
 abbrev pub readable : {A : Type 0} → Option A → Told A
-readable (some v) = told v
-readable none = refused (number_of Is.Polygon)
+readable (Some v) = told v
+readable None = refused (number_of Is.Polygon)
 
 -- the corner that stands at a place, two decimals with a byte between them, and the place after it
 unfoldable pub corner_at : List ℕ → ℕ → Told (AB × ℕ)

@@ -17,62 +17,46 @@
 ghost use Rattle.std.specs.Prelude.{◌≡◌};
 ghost use Rattle.triple.specs.Lent.{count_of, after_call};
 ghost use Rattle.polygon.specs.Polygons.{wkt_of, cell_of_wkt};
-ghost use Rattle.polygon.specs.Answers.{said_write, said_read};
+ghost use Rattle.triple.specs.Refusals.{said};
 
-use reading::{Spelled, cell_spelled};
+use reading::cell_spelled;
 use spelling::spell;
 use text::put::put_bytes;
+use triple::Triple;
 use triple::refusal::Refusal;
-use triple::{FlavorAnswer, Triple};
 
 mod corners;
 mod reading;
 mod spelling;
 
-// The count of bytes written, or why none was.
-#[derive(Clone, Copy)]
-pub enum TextAnswer {
-    Written(usize),
-    Refused(Refusal),
-}
-
-#[derive(Clone, Copy)]
-pub enum PolygonAnswer {
-    Cell(Triple),
-    Refused(Refusal),
-}
-
 // Writes the polygon of a triple's cell at the front of a buffer. It is spelled aside first: a refused
 // call leaves the buffer as it was. The tests of a cell are those that its flavor makes.
-pub fn write(resolution: u8, t: Triple, out: &mut [u8]) -> TextAnswer
-    ensures { (said_write result ≡ count_of (wkt_of resolution t) out.old) × (out.new ≡ after_call (wkt_of resolution t) out.old) }
+pub fn write(resolution: u8, t: Triple, out: &mut [u8]) -> Result<usize, Refusal>
+    ensures { (said result ≡ count_of (wkt_of resolution t) out.old) × (out.new ≡ after_call (wkt_of resolution t) out.old) }
 {
-    let tests = t.flavor(resolution);
-    if let FlavorAnswer::Refused(e) = tests {
-        return TextAnswer::Refused(e);
-    }
+    t.flavor(resolution)?;
     let mut text = [0u8; 110];
     let n = spell(&mut text, t);
     let end = put_bytes(out, 0, &text[..n]);
     if end > out.len() {
-        return TextAnswer::Refused(Refusal::Room);
+        return Err(Refusal::Room);
     }
-    TextAnswer::Written(end)
+    Ok(end)
 }
 
 // Reads the triple whose polygon a text is.
-pub fn read(resolution: u8, text: &[u8]) -> PolygonAnswer
-    ensures { said_read result ≡ cell_of_wkt resolution text.now }
+pub fn read(resolution: u8, text: &[u8]) -> Result<Triple, Refusal>
+    ensures { said result ≡ cell_of_wkt resolution text.now }
 {
     if resolution > Triple::GREATEST_RESOLUTION {
-        return PolygonAnswer::Refused(Refusal::Resolution);
+        return Err(Refusal::Resolution);
     }
     let spelled = cell_spelled(text);
-    let Spelled::Cell(t) = spelled else {
-        return PolygonAnswer::Refused(Refusal::Polygon);
+    let Some(t) = spelled else {
+        return Err(Refusal::Polygon);
     };
     if !t.in_bounds(resolution) {
-        return PolygonAnswer::Refused(Refusal::Bounds);
+        return Err(Refusal::Bounds);
     }
-    PolygonAnswer::Cell(t)
+    Ok(t)
 }

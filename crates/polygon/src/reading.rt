@@ -3,43 +3,22 @@ ghost use Rattle.std.specs.Prelude.{◌≡◌, true, [], ◌≤◌};
 ghost use Rattle.whole.specs.Tests.{pass};
 ghost use Rattle.triple.specs.Triples.{good_sum};
 ghost use Rattle.turtle.specs.Corners.{fits32};
-ghost use Rattle.polygon.specs.Polygons.{polygon_text, corner_at, parity_from, starting_at, narrow, same_text, spelled_cell};
-ghost use Rattle.polygon.specs.Inside.Reading.{said_corner, said_spelled};
+ghost use Rattle.polygon.specs.Polygons.{readable, polygon_text, corner_at, parity_from, starting_at, narrow, same_text, spelled_cell};
 
 use crate::spelling::spell;
-use text::place::{Placed, decimal_at};
+use text::place::decimal_at;
 use triple::Triple;
 use turtle::AB;
 
-// A corner and the place after it.
-#[derive(Clone, Copy)]
-pub(crate) enum Corner {
-    At(AB, usize),
-    Unread,
-}
-
-// `None`: the text is no cell's polygon.
-#[derive(Clone, Copy)]
-pub(crate) enum Spelled {
-    Cell(Triple),
-    None,
-}
-
-fn corner_at(text: &[u8], at: usize) -> Corner
-    ensures { said_corner result ≡ corner_at text.now at }
+fn corner_at(text: &[u8], at: usize) -> Option<(AB, usize)>
+    ensures { readable result ≡ corner_at text.now at }
 {
     if at > text.len() {
-        return Corner::Unread;
+        return None;
     }
-    let first = decimal_at(text, at);
-    let Placed::Decimal(a, next) = first else {
-        return Corner::Unread;
-    };
-    let second = decimal_at(text, next + 1);
-    let Placed::Decimal(b, end) = second else {
-        return Corner::Unread;
-    };
-    Corner::At(AB::new(a, b), end)
+    let (a, next) = decimal_at(text, at)?;
+    let (b, end) = decimal_at(text, next + 1)?;
+    Some((AB::new(a, b), end))
 }
 
 fn parity_from(p: AB, q: AB) -> u8
@@ -63,25 +42,25 @@ fn fits_i32(v: i64) -> bool
 }
 
 // The triple of three numbers, where each is an i32.
-fn narrowed(x: i64, y: i64, z: i64) -> Spelled
-    ensures { said_spelled result ≡ narrow (record { x = x; y = y; z = z }) }
+fn narrowed(x: i64, y: i64, z: i64) -> Option<Triple>
+    ensures { readable result ≡ narrow (record { x = x; y = y; z = z }) }
 {
     if !fits_i32(x) {
-        return Spelled::None;
+        return None;
     }
     if !fits_i32(y) {
-        return Spelled::None;
+        return None;
     }
     if !fits_i32(z) {
-        return Spelled::None;
+        return None;
     }
-    Spelled::Cell(Triple::new(x as i32, y as i32, z as i32))
+    Some(Triple::new(x as i32, y as i32, z as i32))
 }
 
 // The only triple of sum s whose cell can start at p.
-fn starting_at(s: u8, p: AB) -> Spelled
+fn starting_at(s: u8, p: AB) -> Option<Triple>
     requires { s ≤ 1 }
-    ensures { said_spelled result ≡ narrow (starting_at s p) }
+    ensures { readable result ≡ narrow (starting_at s p) }
 {
     let a = p.a;
     let b = p.b;
@@ -121,26 +100,17 @@ fn is_polygon(text: &[u8], t: Triple) -> bool
 
 // The first two corners leave one triple, whose polygon is the text or is not: so no other spelling is
 // read, whatever its numbers are.
-pub(crate) fn cell_spelled(text: &[u8]) -> Spelled
-    ensures { said_spelled result ≡ spelled_cell text.now }
+pub(crate) fn cell_spelled(text: &[u8]) -> Option<Triple>
+    ensures { readable result ≡ spelled_cell text.now }
 {
     if text.len() < 10 {
-        return Spelled::None;
+        return None;
     }
-    let first = corner_at(text, 10);
-    let Corner::At(p, next) = first else {
-        return Spelled::None;
-    };
-    let second = corner_at(text, next + 2);
-    let Corner::At(q, _) = second else {
-        return Spelled::None;
-    };
-    let started = starting_at(parity_from(p, q), p);
-    let Spelled::Cell(t) = started else {
-        return Spelled::None;
-    };
+    let (p, next) = corner_at(text, 10)?;
+    let (q, _) = corner_at(text, next + 2)?;
+    let t = starting_at(parity_from(p, q), p)?;
     if !is_polygon(text, t) {
-        return Spelled::None;
+        return None;
     }
-    Spelled::Cell(t)
+    Some(t)
 }

@@ -3,21 +3,17 @@ use mathlib.Core.Path.{◌≡◌, refl, sym, ap, subst, ◌∙◌}
 use mathlib.Core.List.{List}
 use Prim.Native.Nat.{ℕ}
 use lib.Ieee.{Float}
+use Rattle.std.specs.Prelude.{Result, Ok, Err}
 use Rattle.triple.specs.declared.Triple.{Triple}
-use Rattle.triple.specs.declared.domain.DomainAnswer.{DomainAnswer}
 use Rattle.triple.specs.declared.refusal.Refusal.{Refusal}
-use Rattle.triple.specs.Refusals.{Told, told, refused, number_of, ◌>>=◌}
+use Rattle.triple.specs.Refusals.{Told, told, refused, number_of, ◌>>=◌, said}
 use Rattle.triple.specs.Domain.{domain_of}
-use Rattle.triple.specs.Answers.{said_domain}
 use Rattle.triple.proofs.DomainLaws.{out_of_domain, in_domain_lem}
 use Rattle.triple.specs.Lent.{count_of, after_call}
 use Rattle.curve.specs.declared.PointCell.{PointCell}
-use Rattle.curve.specs.declared.PointAnswer.{PointAnswer}
-use Rattle.curve.specs.Answers.{said_point}
 use Rattle.curve.specs.Points.{point_of}
 use Rattle.lsystem.specs.declared.Located.{Located}
-use Rattle.lsystem.specs.declared.lookup.PositionAnswer.{PositionAnswer}
-use Rattle.lsystem.specs.Answers.{said_located, said_position}
+use Rattle.lsystem.specs.Answers.{said_position}
 use Rattle.lsystem.specs.Cells.{position_of}
 use Rattle.lsystem.specs.Looks.{located_of}
 use Rattle.lsystem.proofs.LookLaws.{position_said}
@@ -36,42 +32,42 @@ module _ {A : Type 0} (made : A → Told Found) {given t : Told A} (answers : gi
   made_refused e = rw (sym answers, e)
 
 -- ---- a triple's position, without the looks of its lookup
-module _ (o r : ℕ) (t : Triple) (a : PositionAnswer) (ea : said_located a ≡ located_of o r t) where
+module _ (o r : ℕ) (t : Triple) (a : Result Located Refusal) (ea : said a ≡ located_of o r t) where
   found : said_position a ≡ position_of o r t
   found = position_said o r t a ea
 
-  pub position_told : {l : Located} → a ≡ PositionAnswer.At l → told (Found.Position l.position) ≡ answer_of (Query.Cell o r t)
+  pub position_told : {l : Located} → a ≡ Ok l → told (Found.Position l.position) ≡ answer_of (Query.Cell o r t)
   unfolding answer_of
   position_told m = made_told (λ p. told (Found.Position p)) found (ap said_position m) refl
 
-  pub position_refused : {e : Refusal} → a ≡ PositionAnswer.Refused e → refused (number_of e) ≡ answer_of (Query.Cell o r t)
+  pub position_refused : {e : Refusal} → a ≡ Err e → refused (number_of e) ≡ answer_of (Query.Cell o r t)
   unfolding answer_of
   position_refused m = made_refused (λ p. told (Found.Position p)) found (ap said_position m)
 
 -- that of a point's cell
-module _ (o r : ℕ) (c : PointCell) (a : PositionAnswer) (ea : said_located a ≡ located_of o r c.triple) where
-  pub placed_told : {l : Located} → a ≡ PositionAnswer.At l → told (Found.Point c l.position) ≡ point_found o r c
+module _ (o r : ℕ) (c : PointCell) (a : Result Located Refusal) (ea : said a ≡ located_of o r c.triple) where
+  pub placed_told : {l : Located} → a ≡ Ok l → told (Found.Point c l.position) ≡ point_found o r c
   placed_told m = made_told (λ p. told (Found.Point c p)) (found o r c.triple a ea) (ap said_position m) refl
 
-  pub placed_refused : {e : Refusal} → a ≡ PositionAnswer.Refused e → refused (number_of e) ≡ point_found o r c
+  pub placed_refused : {e : Refusal} → a ≡ Err e → refused (number_of e) ≡ point_found o r c
   placed_refused m = made_refused (λ p. told (Found.Point c p)) (found o r c.triple a ea) (ap said_position m)
 
 pub ruleset placing = (position_told, position_refused, placed_told, placed_refused)
 
 -- ---- a point: resolution and orientation are tested first, as a point has no position without them
-module _ (o r : ℕ) (i j : Float) {a : DomainAnswer} (ea : said_domain a ≡ domain_of o r) where
-  pub point_outside : {e : Refusal} → a ≡ DomainAnswer.Refused e → refused (number_of e) ≡ answer_of (Query.Point o r i j)
+module _ (o r : ℕ) (i j : Float) {a : Result Unit Refusal} (ea : said a ≡ domain_of o r) where
+  pub point_outside : {e : Refusal} → a ≡ Err e → refused (number_of e) ≡ answer_of (Query.Point o r i j)
   unfolding answer_of
   point_outside m = out_of_domain o r a ea _ m
 
-  module _ (m : a ≡ DomainAnswer.In) (p : PointAnswer) (ep : said_point p ≡ point_of r i j) where
-    pub point_refused : {e : Refusal} → p ≡ PointAnswer.Refused e → refused (number_of e) ≡ answer_of (Query.Point o r i j)
+  module _ (m : a ≡ (Ok tt)) (p : Result PointCell Refusal) (ep : said p ≡ point_of r i j) where
+    pub point_refused : {e : Refusal} → p ≡ Err e → refused (number_of e) ≡ answer_of (Query.Point o r i j)
     unfolding answer_of
-    point_refused k = made_refused (point_found o r) ep (ap said_point k) ∙ in_domain_lem o r a ea m _
+    point_refused k = made_refused (point_found o r) ep (ap said k) ∙ in_domain_lem o r a ea m _
 
-    pub point_told : {c : PointCell} → p ≡ PointAnswer.At c → {x : Told Found} → x ≡ point_found o r c → x ≡ answer_of (Query.Point o r i j)
+    pub point_told : {c : PointCell} → p ≡ Ok c → {x : Told Found} → x ≡ point_found o r c → x ≡ answer_of (Query.Point o r i j)
     unfolding answer_of
-    point_told k e = made_told (point_found o r) ep (ap said_point k) e ∙ in_domain_lem o r a ea m _
+    point_told k e = made_told (point_found o r) ep (ap said k) e ∙ in_domain_lem o r a ea m _
 
 pub ruleset points = (point_outside, point_refused, point_told)
 

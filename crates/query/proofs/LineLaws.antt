@@ -13,72 +13,68 @@ use mir.Syntax.{w32}
 use mir.Val.{to_z, of_z}
 use mir.ValLaws.{to_z-of_z}
 use borrow.Author.Rules.{sfits_of}
+use Rattle.std.specs.Prelude.{Option, Some, None}
 use Rattle.triple.specs.declared.Triple.{Triple}
 use Rattle.triple.specs.declared.refusal.Refusal.TheVariants as Is
 use Rattle.triple.specs.Refusals.{Told, told, refused, number_of}
 use Rattle.text.specs.Words.{words_of}
 use Rattle.text.specs.Decimals.{u8, u64, i32}
 use Rattle.text.specs.Patterns.{f64}
-use Rattle.text.specs.declared.number.ByteWord.{ByteWord}
-use Rattle.text.specs.declared.number.NaturalWord.{NaturalWord}
-use Rattle.text.specs.declared.number.IntegerWord.{IntegerWord}
-use Rattle.text.specs.declared.number.FloatWord.{FloatWord}
-use Rattle.text.specs.Answers.{said_byte, said_natural, said_integer, said_float}
 use Rattle.query.specs.declared.Query.{Query}
 use Rattle.query.specs.Lines.{position_rest, cell_rest, point_rest, headed, starts, query_of}
 
 -- ---- a reader said it of a word as it was cut, p, which is the word q
-pub byte_of : (a : ByteWord) {p q : List ℕ} → p ≡ q → said_byte a ≡ u8 p → said_byte a ≡ u8 q
+pub byte_of : (a : Option ℕ) {p q : List ℕ} → p ≡ q → a ≡ u8 p → a ≡ u8 q
 byte_of a e s = rw e at s
 
-pub natural_of : (a : NaturalWord) {p q : List ℕ} → p ≡ q → said_natural a ≡ u64 p → said_natural a ≡ u64 q
+pub natural_of : (a : Option ℕ) {p q : List ℕ} → p ≡ q → a ≡ u64 p → a ≡ u64 q
 natural_of a e s = rw e at s
 
-pub integer_of : (a : IntegerWord) {p q : List ℕ} → p ≡ q → said_integer a ≡ i32 p → said_integer a ≡ i32 q
+pub integer_of : (a : Option ℤ) {p q : List ℕ} → p ≡ q → a ≡ i32 p → a ≡ i32 q
 integer_of a e s = rw e at s
 
-pub float_of : (a : FloatWord) {p q : List ℕ} → p ≡ q → said_float a ≡ f64 p → said_float a ≡ f64 q
+pub float_of : (a : Option Float) {p q : List ℕ} → p ≡ q → a ≡ f64 p → a ≡ f64 q
 float_of a e s = rw e at s
 
 -- ---- the words after the orientation and the resolution
 module _ (w : List (List ℕ)) (o r : ℕ) where
   -- P o r s
-  module _ (a : NaturalWord) (s : said_natural a ≡ u64 (get_or w 3 [])) where
-    pub position_unread : a ≡ NaturalWord.Unread → refused (number_of Is.Line) ≡ position_rest o r w
+  module _ (a : Option ℕ) (s : a ≡ u64 (get_or w 3 [])) where
+    pub position_unread : a ≡ None → refused (number_of Is.Line) ≡ position_rest o r w
     position_unread t = rw (← s, t)
 
-    pub position_read : (n : ℕ) → a ≡ NaturalWord.Natural n → told (Query.Position o r n) ≡ position_rest o r w
+    pub position_read : (n : ℕ) → a ≡ Some n → told (Query.Position o r n) ≡ position_rest o r w
     position_read n t = rw (← s, t)
 
   -- C o r x y z
-  module _ (a : IntegerWord) (s : said_integer a ≡ i32 (get_or w 3 [])) where
-    pub cell_unread : a ≡ IntegerWord.Unread → refused (number_of Is.Line) ≡ cell_rest o r w
+  module _ (a : Option ℤ) (s : a ≡ i32 (get_or w 3 [])) where
+    pub cell_unread : a ≡ None → refused (number_of Is.Line) ≡ cell_rest o r w
     cell_unread t = rw (← s, t)
 
-    module _ (x : ℤ) (t : a ≡ IntegerWord.Integer x) (b : IntegerWord) (s' : said_integer b ≡ i32 (get_or w 4 [])) where
-      pub cell_second : b ≡ IntegerWord.Unread → refused (number_of Is.Line) ≡ cell_rest o r w
+    module _ (x : ℤ) (t : a ≡ Some x) (b : Option ℤ) (s' : b ≡ i32 (get_or w 4 [])) where
+      pub cell_second : b ≡ None → refused (number_of Is.Line) ≡ cell_rest o r w
       cell_second t' = rw (← s, t, ← s', t')
 
-      module _ (y : ℤ) (t' : b ≡ IntegerWord.Integer y) (c : IntegerWord) (s'' : said_integer c ≡ i32 (get_or w 5 [])) where
-        pub cell_third : c ≡ IntegerWord.Unread → refused (number_of Is.Line) ≡ cell_rest o r w
+      module _ (y : ℤ) (t' : b ≡ Some y) (c : Option ℤ) (s'' : c ≡ i32 (get_or w 5 [])) where
+        pub cell_third : c ≡ None → refused (number_of Is.Line) ≡ cell_rest o r w
         cell_third t'' = rw (← s, t, ← s', t', ← s'', t'')
 
   -- a coordinate that is handed on is read back from its bits
-  pub cell_read : (v : Triple) (x y z : ℤ) (a b c : IntegerWord) → v ≡ record { x = to_z w32 (of_z w32 x); y = to_z w32 (of_z w32 y); z = to_z w32 (of_z w32 z) } → mag x < 2 ^ 31 → mag y < 2 ^ 31 → mag z < 2 ^ 31
-      → a ≡ IntegerWord.Integer x → said_integer a ≡ i32 (get_or w 3 []) → b ≡ IntegerWord.Integer y → said_integer b ≡ i32 (get_or w 4 []) → c ≡ IntegerWord.Integer z → said_integer c ≡ i32 (get_or w 5 [])
+  pub cell_read : (v : Triple) (x y z : ℤ) (a b c : Option ℤ) → v ≡ record { x = to_z w32 (of_z w32 x); y = to_z w32 (of_z w32 y); z = to_z w32 (of_z w32 z) } → mag x < 2 ^ 31 → mag y < 2 ^ 31 → mag z < 2 ^ 31
+      → a ≡ Some x → a ≡ i32 (get_or w 3 []) → b ≡ Some y → b ≡ i32 (get_or w 4 []) → c ≡ Some z → c ≡ i32 (get_or w 5 [])
       → told (Query.Cell o r v) ≡ cell_rest o r w
   cell_read v x y z a b c d fx fy fz t s t' s' t'' s'' = rw (d, to_z-of_z w32 x (sfits_of fx), to_z-of_z w32 y (sfits_of fy), to_z-of_z w32 z (sfits_of fz), ← s, t, ← s', t', ← s'', t'')
 
   -- R o r i j
-  module _ (a : FloatWord) (s : said_float a ≡ f64 (get_or w 3 [])) where
-    pub point_unread : a ≡ FloatWord.Unread → refused (number_of Is.Line) ≡ point_rest o r w
+  module _ (a : Option Float) (s : a ≡ f64 (get_or w 3 [])) where
+    pub point_unread : a ≡ None → refused (number_of Is.Line) ≡ point_rest o r w
     point_unread t = rw (← s, t)
 
-    module _ (i : Float) (t : a ≡ FloatWord.Float i) (b : FloatWord) (s' : said_float b ≡ f64 (get_or w 4 [])) where
-      pub point_second : b ≡ FloatWord.Unread → refused (number_of Is.Line) ≡ point_rest o r w
+    module _ (i : Float) (t : a ≡ Some i) (b : Option Float) (s' : b ≡ f64 (get_or w 4 [])) where
+      pub point_second : b ≡ None → refused (number_of Is.Line) ≡ point_rest o r w
       point_second t' = rw (← s, t, ← s', t')
 
-      pub point_read : (j : Float) → b ≡ FloatWord.Float j → told (Query.Point o r i j) ≡ point_rest o r w
+      pub point_read : (j : Float) → b ≡ Some j → told (Query.Point o r i j) ≡ point_rest o r w
       point_read j t' = rw (← s, t, ← s', t')
 
 pub ruleset position_laws = (natural_of, position_unread, position_read)
@@ -158,17 +154,17 @@ module _ (w : List (List ℕ)) where
       no_point b d = no_form (another 82 80 4 b (λ z. omega arith)) (another 82 67 6 b (λ z. omega arith)) (miscounted 82 5 d)
 
   -- the orientation and the resolution
-  module _ (a : ByteWord) (s : said_byte a ≡ u8 (get_or w 1 [])) where
-    pub no_orientation : a ≡ ByteWord.Unread → refused (number_of Is.Line) ≡ chosen w
+  module _ (a : Option ℕ) (s : a ≡ u8 (get_or w 1 [])) where
+    pub no_orientation : a ≡ None → refused (number_of Is.Line) ≡ chosen w
     unfolding headed
     no_orientation t = no_word (rw (← s, t)) (rw (← s, t)) (rw (← s, t))
 
-    module _ (o : ℕ) (t : a ≡ ByteWord.Byte o) (b : ByteWord) (s' : said_byte b ≡ u8 (get_or w 2 [])) where
-      pub no_resolution : b ≡ ByteWord.Unread → refused (number_of Is.Line) ≡ chosen w
+    module _ (o : ℕ) (t : a ≡ Some o) (b : Option ℕ) (s' : b ≡ u8 (get_or w 2 [])) where
+      pub no_resolution : b ≡ None → refused (number_of Is.Line) ≡ chosen w
       unfolding headed
       no_resolution t' = no_word (rw (← s, t, ← s', t')) (rw (← s, t, ← s', t')) (rw (← s, t, ← s', t'))
 
-      module _ (r : ℕ) (t' : b ≡ ByteWord.Byte r) (h : List ℕ) (e : h ≡ get_or w 0 []) (one : length h ≡ 1) (n : ℕ) (c : n ≡ length w) (x : Told Query) where
+      module _ (r : ℕ) (t' : b ≡ Some r) (h : List ℕ) (e : h ≡ get_or w 0 []) (one : length h ≡ 1) (n : ℕ) (c : n ≡ length w) (x : Told Query) where
         form : (letter k : ℕ) → get_or h 0 0 ≡ letter → n ≡ k → starts letter k w ≡ true
         form letter k m d = starts_so letter k w (sym c ∙ d) (rw e at one) (rw e at m)
 

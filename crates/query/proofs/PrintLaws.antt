@@ -13,10 +13,11 @@ use lib.Seq.{sets-eq, take_at, length-take-le}
 use mir.Syntax.{w32, w64}
 use mir.Val.{to_z, of_z}
 use mir.ValLaws.{to_z-of_z}
+use Rattle.std.specs.Prelude.{Result, Ok, Err}
 use Rattle.triple.specs.declared.Triple.{Triple}
 use Rattle.triple.specs.declared.refusal.Refusal.{Refusal}
 use Rattle.triple.specs.declared.refusal.Refusal.TheVariants as Is
-use Rattle.triple.specs.Refusals.{told, refused, number_of}
+use Rattle.triple.specs.Refusals.{told, refused, number_of, said}
 use Rattle.triple.specs.Lent.{count_of, after_call}
 use Rattle.text.specs.Words.{spaced}
 use Rattle.text.specs.Decimals.{natural, integer}
@@ -28,10 +29,8 @@ use Rattle.lsystem.specs.declared.Position.{Position}
 use Rattle.curve.specs.declared.PointCell.{PointCell}
 use Rattle.curve.specs.Points.{mark_of}
 use Rattle.query.specs.declared.Found.{Found}
-use Rattle.query.specs.declared.FoundAnswer.{FoundAnswer}
 use Rattle.query.specs.Lines.{triple_words, position_words, found_words}
 use Rattle.query.specs.Prints.{found_text}
-use Rattle.query.specs.Answers.{said_found}
 use Rattle.query.specs.Inside.Printing.{Printed}
 
 -- ---- pieces of a line
@@ -119,11 +118,11 @@ pub point_printed : (c : PointCell) (p : Position) {mark : ℕ} → mark ≡ mar
 unfolding found_words spaced
 point_printed c p mark_is a b h = line_as (next_piece 2 b (rw mark_is at a) (omega (arith, mark_length c)) (omega arith)) (simp append_assoc) (omega arith)
 
-module _ (answer : FoundAnswer) {f : ℕ} {slice after : List ℕ} where
-  pub found_printed : (found : Found) → answer ≡ FoundAnswer.Found found → Printed 62 slice (found_text (told found)) after f → Printed 62 slice (found_text (said_found answer)) after f
+module _ (answer : Result Found Refusal) {f : ℕ} {slice after : List ℕ} where
+  pub found_printed : (found : Found) → answer ≡ Ok found → Printed 62 slice (found_text (told found)) after f → Printed 62 slice (found_text (said answer)) after f
   found_printed found p a = rw p a
 
-  pub refusal_printed : (e : Refusal) → answer ≡ FoundAnswer.Refused e → (n : ℕ) → n ≡ number_of e → {d : ℕ} {between : List ℕ} → Put between d (32 ∷ natural n) after f → Put slice 0 (33 ∷ []) between d → n < 2 ^ 8 → 62 ≤ length slice → Printed 62 slice (found_text (said_found answer)) after f
+  pub refusal_printed : (e : Refusal) → answer ≡ Err e → (n : ℕ) → n ≡ number_of e → {d : ℕ} {between : List ℕ} → Put between d (32 ∷ natural n) after f → Put slice 0 (33 ∷ []) between d → n < 2 ^ 8 → 62 ≤ length slice → Printed 62 slice (found_text (said answer)) after f
   unfolding found_words spaced
   refusal_printed e p n q a b m h =
       let mark = first_piece 1 b (omega arith) in

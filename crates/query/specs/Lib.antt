@@ -1,5 +1,4 @@
 pub mod Queries
 pub mod Lines
 pub mod Prints
-pub mod Answers
 pub mod Inside

@@ -1,6 +1,5 @@
 -- A query as a line of bytes, without LF, and its answer as one.
-use Rattle.std.specs.Prelude.{Bool, ◌&&◌, cond, List, [], ◌∷◌, ℕ, ltb, eqb, length, get_or}
-use mathlib.Core.Option.{Option, some, none}
+use Rattle.std.specs.Prelude.{Bool, ◌&&◌, cond, List, [], ◌∷◌, ℕ, ltb, eqb, length, get_or, Option, Some, None}
 use Rattle.triple.specs.declared.Triple.{Triple}
 use Rattle.triple.specs.declared.refusal.Refusal.TheVariants as Is
 use Rattle.triple.specs.Refusals.{Told, told, refused, number_of, refuse, ◌>>=◌}
@@ -16,8 +15,8 @@ use Rattle.query.specs.Queries.{answer_of}
 -- ---- the query of a line's words
 -- a word that is no such number spoils its line
 abbrev pub number : {A : Type 0} → Option A → Told A
-number (some v) = told v
-number none = refused (number_of Is.Line)
+number (Some v) = told v
+number None = refused (number_of Is.Line)
 
 -- the words after o and r
 abbrev pub position_rest : ℕ → ℕ → List (List ℕ) → Told Query

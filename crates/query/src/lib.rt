@@ -28,15 +28,3 @@ pub enum Found {
     Position(Position),
     Point(PointCell, Position),
 }
-
-#[derive(Clone, Copy)]
-pub enum QueryAnswer {
-    Query(Query),
-    Refused(Refusal),
-}
-
-#[derive(Clone, Copy)]
-pub enum FoundAnswer {
-    Found(Found),
-    Refused(Refusal),
-}

@@ -4,23 +4,16 @@ ghost use Rattle.text.specs.Words.{spaced};
 ghost use Rattle.query.specs.declared.Found.{Found};
 ghost use Rattle.query.specs.Lines.{triple_words, position_words};
 ghost use Rattle.query.specs.Prints.{found_text};
-ghost use Rattle.query.specs.Answers.{said_found, said_print};
 ghost use Rattle.query.specs.Inside.Printing.{Printed};
-ghost use Rattle.triple.specs.Refusals.{told};
+ghost use Rattle.triple.specs.Refusals.{told, said};
 ghost use Rattle.triple.specs.Lent.{count_of, after_call};
 
-use crate::{Found, FoundAnswer};
+use crate::Found;
 use curve::PointCell;
 use lsystem::Position;
 use text::put::{put, put_bytes, put_integer, put_natural, put_next_integer, put_next_natural};
 use triple::Triple;
 use triple::refusal::Refusal;
-
-#[derive(Clone, Copy)]
-pub enum PrintAnswer {
-    Printed(usize),
-    Refused(Refusal),
-}
 
 // An i32 takes at most 11 bytes, a u64 20, a u8 3 and a mark 1: so a triple at most 35, and a line at
 // most 62.
@@ -77,13 +70,13 @@ fn write_found(out: &mut [u8], found: Found) -> usize
     }
 }
 
-fn write(out: &mut [u8], found: FoundAnswer) -> usize
+fn write(out: &mut [u8], found: Result<Found, Refusal>) -> usize
     requires { 62 ≤ length out.old }
-    ensures { Printed 62 out.old (found_text (said_found found)) out.new result }
+    ensures { Printed 62 out.old (found_text (said found)) out.new result }
 {
     match found {
-        FoundAnswer::Found(f) => write_found(out, f),
-        FoundAnswer::Refused(e) => {
+        Ok(f) => write_found(out, f),
+        Err(e) => {
             let after_mark = put(out, 0, b'!');
             put_next_natural(out, after_mark, e.number() as u64)
         }
@@ -91,14 +84,14 @@ fn write(out: &mut [u8], found: FoundAnswer) -> usize
 }
 
 // Answers the line's length. It is written aside first: a buffer that is too short stays as it is.
-pub fn print(found: FoundAnswer, out: &mut [u8]) -> PrintAnswer
-    ensures { (said_print result ≡ count_of (told (found_text (said_found found))) out.old) × (out.new ≡ after_call (told (found_text (said_found found))) out.old) }
+pub fn print(found: Result<Found, Refusal>, out: &mut [u8]) -> Result<usize, Refusal>
+    ensures { (said result ≡ count_of (told (found_text (said found))) out.old) × (out.new ≡ after_call (told (found_text (said found))) out.old) }
 {
     let mut text = [0u8; 62];
     let n = write(&mut text, found);
     let end = put_bytes(out, 0, &text[..n]);
     if end > out.len() {
-        return PrintAnswer::Refused(Refusal::Room);
+        return Err(Refusal::Room);
     }
-    PrintAnswer::Printed(end)
+    Ok(end)
 }

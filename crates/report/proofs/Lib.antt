@@ -2,8 +2,6 @@
 pub mod MemberLaws
 -- numbers put in order, part by part
 pub mod OrderLaws
--- a few of them, by exchanging neighbours
-pub mod FewLaws
 -- each of them once
 pub mod DistinctLaws
 -- the triples of a report

@@ -4,19 +4,17 @@ use mathlib.Core.Path.{◌≡◌, refl, sym, ap, ◌∙◌}
 use mathlib.Core.List.{List, [], ◌∷◌, ◌++◌}
 use Prim.Native.Nat.{ℕ, ◌-◌, ◌*◌, ◌/◌, ◌%◌, ◌^◌, ◌<◌, ◌≤◌}
 use native.Mathlib.Omega.{arith}
-use native.Mathlib.Decide.{dec_lt}
 use lib.Dec.{ltb}
 use lib.IntN.{ℤ}
 use lib.ListN.{length, take, drop, replicate, length-append}
 use lib.Seq.{length-take-le, take_at}
-use borrow.Author.Tests.{lt-ltb, le-ltb, ltb-false, eq-eqb, ne_eqb, not-true, not-false}
+use borrow.Author.Tests.{lt-ltb, ltb-false, eq-eqb, ne_eqb, not-true, not-false}
+use Rattle.std.specs.Prelude.{Ok, Err, Result}
 use Rattle.triple.specs.declared.Triple.{Triple}
-use Rattle.triple.specs.declared.domain.DomainAnswer.{DomainAnswer}
 use Rattle.triple.specs.declared.refusal.Refusal.{Refusal}
 use Rattle.triple.specs.declared.refusal.Refusal.TheVariants as Is
-use Rattle.triple.specs.Refusals.{Told, told, refused, refuse, number_of}
+use Rattle.triple.specs.Refusals.{Told, told, refused, refuse, number_of, said}
 use Rattle.triple.specs.Domain.{domain_of}
-use Rattle.triple.specs.Answers.{said_domain}
 use Rattle.triple.specs.Triples.{good_sum, is_in_bounds}
 use Rattle.triple.specs.Lent.{valued, count_of, after_call}
 use Rattle.triple.proofs.DomainLaws.{domain_in, out_of_domain, in_domain_lem, shallow, oriented}
@@ -87,18 +85,6 @@ module _ (o r : ℕ) (xs : List ℤ) (reported : Reported o r xs) where
 
 pub ruleset reports = (report_low, work_below, report_within, report_part, report_left, report_size, report_count, report_out)
 
--- ---- room
-pub short_work : (n work out : ℕ) → work < n → true ≡ (ltb work n || ltb out (2 * n))
-short_work n work out h = rw (lt-ltb work n h) refl
-
-pub short_out : (n work out : ℕ) → n ≤ work → ltb (out / 2) n ≡ (ltb work n || ltb out (2 * n))
-short_out n work out h = rw (le-ltb work n h) (elim (dec_lt (out / 2) n) [
-  | yes l ↦ lt-ltb (out / 2) n l ∙ sym (lt-ltb out (2 * n) (omega arith))
-  | no l ↦ le-ltb (out / 2) n (omega arith) ∙ sym (le-ltb out (2 * n) (omega arith))
-])
-
-pub ruleset shorts = (short_work, short_out)
-
 -- ---- a call that is refused leaves both slices
 module _ (o r : ℕ) (xs : List ℤ) (work out : List ℕ) {n : ℕ} (e : refused n ≡ report_to o r xs work out) where
   no_count : refused n ≡ valued (λ n. n / 2) (count_of (report_to o r xs work out) out)
@@ -116,8 +102,8 @@ unfolding report_to
 early o r xs work out e = rw (← e) refl
 
 -- ---- the tests
-module _ (o r : ℕ) (xs : List ℤ) (work out : List ℕ) {a : DomainAnswer} (ea : said_domain a ≡ domain_of o r) where
-  module _ {e : Refusal} (m : a ≡ DomainAnswer.Refused e) where
+module _ (o r : ℕ) (xs : List ℤ) (work out : List ℕ) {a : Result Unit Refusal} (ea : said a ≡ domain_of o r) where
+  module _ {e : Refusal} (m : a ≡ Err e) where
     outside : refused (number_of e) ≡ report_to o r xs work out
     unfolding report_call
     outside = early o r xs work out (out_of_domain o r a ea _ m)
@@ -131,7 +117,7 @@ module _ (o r : ℕ) (xs : List ℤ) (work out : List ℕ) {a : DomainAnswer} (e
     pub outside_work : work ≡ after_call (work_to o r xs work out) work
     outside_work = no_work o r xs work out outside
 
-  module _ (m : a ≡ DomainAnswer.In) {sums : Bool} (sums_is : sums ≡ every good_sum (triples_in xs)) where
+  module _ (m : a ≡ (Ok tt)) {sums : Bool} (sums_is : sums ≡ every good_sum (triples_in xs)) where
     pub tests_low : r ≤ 30
     tests_low = shallow o r a ea m
 

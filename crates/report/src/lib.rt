@@ -3,5 +3,5 @@
 // is `area`'s.
 #![tactic(auto)]
 
-pub mod ordering;
+mod ordering;
 pub mod reporting;

@@ -6,13 +6,13 @@ use Prim.Native.Nat.{ℕ, suc, ◌*◌, ◌^◌, ◌≤◌, ◌<◌}
 use native.Mathlib.Omega.{arith}
 use lib.IntN.{ℤ, pos, neg_ℤ, ◌+ℤ◌, ◌-ℤ◌}
 use lib.ListN.{length, get_or, get_or-map}
+use Rattle.std.specs.Prelude.{Option, Some, None}
 use Rattle.whole.proofs.View.{view, v_var, eq_by}
 use Rattle.triple.specs.declared.Triple.{Triple}
 use Rattle.triple.specs.Refusals.{Told, told, refused}
 use Rattle.triple.specs.Orientations.{axiom_of, is_backward, is_shifted, place_from, curve_place}
 use Rattle.triple.proofs.OrientationLaws.{six, place_small, place_place}
 use Rattle.turtle.specs.declared.AB.{AB}
-use Rattle.turtle.specs.declared.letter.Flavor.{Flavor}
 use Rattle.turtle.specs.Plane.{ab, origin, ◌⊕◌, thrice, signed, facing}
 use Rattle.turtle.specs.Corners.{corner_sum, triple_of}
 use Rattle.turtle.specs.Letters.{toggled}
@@ -56,10 +56,10 @@ start_sum o h r t =
     let c = corner_sum t in
     six (λ o. thrice (start_of (is_shifted o) r) ⊕ corner_sum (drawn (axiom_in o) r t) ≡ corner_sum t) (unmoved_sum c) (unmoved_sum c) (unmoved_sum c) (unmoved_sum c) (moved_sum (2 ^ r) t) (moved_sum (2 ^ r) t) o h
 
-flavor_still : (f : Flavor) → flavor_in (turned_flavor 0 f) ≡ flavor_in f
+flavor_still : (f : Option ℕ) → flavor_in (turned_flavor 0 f) ≡ flavor_in f
 unfolding turned_flavor toggled
-flavor_still (Flavor.Of f) = omega arith
-flavor_still Flavor.None = refl
+flavor_still (Some f) = omega arith
+flavor_still None = refl
 
 -- ---- an axiom's word draws 4 ^ r cells
 pub axiom_cells : (o r : ℕ) → o ≤ 5 → letter_count (strokes a5 r (axiom_of o)) ≡ 4 ^ r

@@ -1,9 +1,10 @@
--- What a drawing gives, at each of its tests, and that the walk of the axiom's word fills the buffer with it.
+-- What a drawing gives, at each of its tests, and that the walk of the axiom's letter fills the buffer with it.
 use mathlib.Core.Path.{◌≡◌, refl, sym, ap, ◌∙◌}
 use mathlib.Core.Bool.{Bool, false}
-use mathlib.Core.List.{List, ◌++◌}
+use mathlib.Core.List.{List, [], ◌∷◌, ◌++◌}
 use Prim.Native.Nat.{ℕ, zero, suc, ◌+◌, ◌*◌, ◌^◌, ◌≤◌, ◌<◌}
 use native.Mathlib.Nat as N
+use native.Mathlib.Numerals.{add-one}
 use native.Mathlib.Omega.{arith}
 use borrow.Author.Tests.{le-ltb, lt-ltb, eq-eqb, ne_eqb}
 use lib.IntN.{ℤ}
@@ -22,16 +23,15 @@ use Rattle.triple.proofs.OrientationLaws.{motif_small}
 use Rattle.turtle.specs.declared.AB.{AB}
 use Rattle.turtle.specs.Walk.{turtle}
 use Rattle.turtle.proofs.WordLaws.{placed}
-use Rattle.grammar.specs.Words.{upper}
 use Rattle.grammar.specs.Curves.{letter_count, strokes}
 use Rattle.tables.specs.Children.{no_cell}
 use Rattle.a5.specs.A5.{a5}
 use Rattle.lsystem.specs.Cells.{cell_of}
 use Rattle.sketch.specs.declared.pen.Pen.{Pen}
 use Rattle.sketch.specs.Drawings.{cells_from, draw_call}
-use Rattle.sketch.specs.Inside.Marks.{word_at, marks}
+use Rattle.sketch.specs.Inside.Marks.{marks}
 use Rattle.sketch.specs.Inside.Pens.{start_of, inked, Room, Drawable}
-use Rattle.sketch.proofs.MarkLaws.{axiom_marks}
+use Rattle.sketch.proofs.MarkLaws.{marks_strokes}
 use Rattle.sketch.proofs.StartLaws.{start_small}
 use Rattle.sketch.proofs.FillLaws.{listed, length_listed, walk_fills}
 use Rattle.sketch.proofs.CellLaws.{entries, cell_told, entries_four, axiom_cells, drawn_entries}
@@ -127,7 +127,7 @@ module _ (o r : ℕ) (out : List ℤ) where
 
 pub ruleset drawing = (none_count, none_kept, deep_count, deep_kept, turned_count, turned_kept, cells_fit, few_count, few_kept, all_count, all_room)
 
--- ---- the walk of the whole word
+-- ---- the walk of the whole curve
 -- the pen that the code starts with
 abbrev pen_from : AB → ℕ → Bool → Pen
 pen_from at cells back = record { turtle = turtle at 0; drawn = 0; cells = cells; backward = back }
@@ -156,15 +156,14 @@ module _ (o : ℕ) {w : Recipe} (recipe : w ≡ recipe_of o) where
   unfolding axiom_of
   letter_is = ap (λ m. 65 + m) motif_is
 
-  module _ (r : ℕ) (ask : Drawable o r) (out : List ℤ) (room : 4 * 4 ^ r ≤ length out) {at : AB} (home : at ≡ start_of w.shifted r) {cells : ℕ} (counted : cells ≡ position_count r)
-      {word : List ℕ} (read : word ≡ word_at (r + 1) (upper (65 + w.motif))) where
-    strokes_are : marks r word ≡ strokes a5 r (axiom_of o)
-    strokes_are = axiom_marks r o ask.oriented letter_is read
+  module _ (r : ℕ) (ask : Drawable o r) (out : List ℤ) (room : 4 * 4 ^ r ≤ length out) {at : AB} (home : at ≡ start_of w.shifted r) {cells : ℕ} (counted : cells ≡ position_count r) where
+    strokes_are : marks (r + 1) ((65 + w.motif) ∷ []) ≡ strokes a5 r (axiom_of o)
+    strokes_are = ap (λ k. marks k ((65 + w.motif) ∷ [])) (add-one r) ∙ marks_strokes r (65 + w.motif) ∙ ap (strokes a5 r) letter_is
 
     cells_are : cells ≡ 4 ^ r
     cells_are = positions_are r (omega (arith, ask.shallow)) counted
 
-    pub fill_room : Room (marks r word) (pen_from at cells w.backward) out
+    pub fill_room : Room (marks (r + 1) ((65 + w.motif) ∷ [])) (pen_from at cells w.backward) out
     fill_room =
         let many : cells ≡ 4 ^ r = cells_are in
         record {
@@ -175,7 +174,7 @@ module _ (o : ℕ) {w : Recipe} (recipe : w ≡ recipe_of o) where
           faces = omega arith;
         }
 
-    pub fill_all : {last : List ℤ} → last ≡ inked (marks r word) (pen_from at cells w.backward) out → last ≡ after_call (draw_call o r) out
+    pub fill_all : {last : List ℤ} → last ≡ inked (marks (r + 1) ((65 + w.motif) ∷ [])) (pen_from at cells w.backward) out → last ≡ after_call (draw_call o r) out
     unfolding recipe_of
     fill_all f =
         let z : r ≡ 0 → ⊥ = λ e. omega (arith, ask.some) in

@@ -1,24 +1,24 @@
 -- A step that the pen draws: what the turtle's step tells, and the four entries of its cell.
 use mathlib.Core.Path.{◌≡◌, refl, sym, ap, ◌∙◌, subst}
-use mathlib.Core.List.{List, [], ◌∷◌}
-use Prim.Native.Nat.{ℕ, suc, ◌+◌, ◌*◌, ◌≤◌, ◌<◌}
+use mathlib.Core.List.{List, [], ◌∷◌, ◌++◌, append_assoc}
+use Prim.Native.Nat.{ℕ, ◌+◌, ◌*◌, ◌≤◌, ◌<◌, ◌-◌}
 use native.Mathlib.Omega.{arith}
 use lib.IntN.{ℤ, pos}
-use lib.ListN.{length, set}
-use lib.Seq.{sets}
+use Rattle.std.proofs.lemmas.List.Edits.{sets-eq}
+use lib.ListN.{length, take, drop}
+use lib.Seq.{sets, drop-drop}
 use mir.Syntax.{w32, w64}
 use mir.Val.{Fits, SFits, to_z, of_z}
 use mir.ValLaws.{to_z-of_z, to_z_pos}
+use Rattle.std.specs.Prelude.{Ok, Err, Result}
 use Rattle.triple.specs.declared.Triple.{Triple}
 use Rattle.triple.specs.declared.refusal.Refusal.{Refusal}
 use Rattle.triple.proofs.OrientationLaws.{place_below}
 use Rattle.turtle.specs.declared.AB.{AB}
-use Rattle.turtle.specs.declared.corner.TripleAnswer.{TripleAnswer}
 use Rattle.turtle.specs.declared.letter.Stroke.{Stroke}
 use Rattle.turtle.specs.declared.walk.DrawnCell.{DrawnCell}
 use Rattle.turtle.specs.declared.walk.Stepped.{Stepped}
 use Rattle.turtle.specs.declared.walk.Turtle.{Turtle}
-use Rattle.turtle.specs.Answers.{said_triple}
 use Rattle.turtle.specs.Corners.{triple_of}
 use Rattle.turtle.specs.Walk.{Sym, left, right, letter, symbol_of, step_by, step_of}
 use Rattle.turtle.proofs.WalkLaws.{small_more}
@@ -27,14 +27,15 @@ use Rattle.grammar.proofs.NetLaws.{one_symbol, step_near}
 use Rattle.lsystem.specs.Cells.{flavor_in}
 use Rattle.sketch.specs.declared.pen.Pen.{Pen}
 use Rattle.sketch.specs.Inside.Pens.{triple_in, entries_of, place_of, pen_at, pen_on, ink, pen_after, inked, Room}
+use Rattle.triple.specs.Refusals.{said}
 
 -- ---- the triple of a corner sum
-module _ (p : AB) {a : TripleAnswer} (said : said_triple a ≡ triple_of p) where
-  pub triple_at : {t : Triple} → a ≡ TripleAnswer.At t → t ≡ triple_in (triple_of p)
-  triple_at e = ap triple_in (sym (ap said_triple e) ∙ said)
+module _ (p : AB) {a : Result Triple Refusal} (says : said a ≡ triple_of p) where
+  pub triple_at : {t : Triple} → a ≡ Ok t → t ≡ triple_in (triple_of p)
+  triple_at e = ap triple_in (sym (ap said e) ∙ says)
 
-  pub triple_none : {r : Refusal} → a ≡ TripleAnswer.Refused r → {t : Triple} → t ≡ record { x = pos 0; y = pos 0; z = pos 0 } → t ≡ triple_in (triple_of p)
-  triple_none e f = f ∙ ap triple_in (sym (ap said_triple e) ∙ said)
+  pub triple_none : {r : Refusal} → a ≡ Err r → {t : Triple} → t ≡ record { x = pos 0; y = pos 0; z = pos 0 } → t ≡ triple_in (triple_of p)
+  triple_none e f = f ∙ ap triple_in (sym (ap said e) ∙ says)
 
 -- ---- the four entries
 pub record Narrow (t : Triple) : Type 0 where
@@ -42,14 +43,13 @@ pub record Narrow (t : Triple) : Type 0 where
   pub y : SFits w32 t.y
   pub z : SFits w32 t.z
 
-pub put_four : (c : DrawnCell) (at : ℕ) (out : List ℤ) {t : Triple} {f : ℕ} → t ≡ triple_in (triple_of c.sum) → f ≡ flavor_in c.flavor → Narrow t → f < 256
-    → set (set (set (set out at (to_z w32 (of_z w32 t.x))) (at + 1) (to_z w32 (of_z w32 t.y))) (at + 2) (to_z w32 (of_z w32 t.z))) (at + 3) (to_z w32 f) ≡ sets out at (entries_of c)
+pub put_four : (c : DrawnCell) (at : ℕ) (out : List ℤ) {t : Triple} {f : ℕ} → t ≡ triple_in (triple_of c.sum) → f ≡ flavor_in c.flavor → Narrow t → f < 256 → at + 4 ≤ length out
+    → {part : List ℤ} → part ≡ to_z w32 (of_z w32 t.x) ∷ to_z w32 (of_z w32 t.y) ∷ to_z w32 (of_z w32 t.z) ∷ to_z w32 f ∷ [] → take at out ++ (part ++ drop (at + 4 - at) (drop at out)) ≡ sets out at (entries_of c)
 unfolding entries_of
-put_four c at out {t} {f} et ef n h =
-    let one : at + 1 ≡ suc at = omega arith in
-    let two : at + 2 ≡ suc (suc at) = omega arith in
-    let three : at + 3 ≡ suc (suc (suc at)) = omega arith in
-    rw (to_z-of_z w32 t.x n.x, to_z-of_z w32 t.y n.y, to_z-of_z w32 t.z n.z, to_z_pos w32 f (omega arith), one, two, three, et, ef)
+put_four c at out {t} {f} et ef n h room {part} e =
+    let entries : part ≡ entries_of c = e ∙ rw (to_z-of_z w32 t.x n.x, to_z-of_z w32 t.y n.y, to_z-of_z w32 t.z n.z, to_z_pos w32 f (omega arith), et, ef) in
+    let four : at + 4 - at ≡ 4 = omega arith in
+    rw (entries, four, drop-drop) (sym (sets-eq (entries_of c) out at room ∙ append_assoc (take at out) (entries_of c) _))
 
 -- ---- a step
 -- the pen and the buffer by what the turtle's step tells

@@ -1,19 +1,19 @@
 -- A word walked byte by byte, in the form of what the walkers have in hand: what is behind, the byte, what is ahead.
 use mathlib.Core.Path.{◌≡◌, refl, sym, ap, ◌∙◌, subst}
-use mathlib.Core.List.{List, [], ◌∷◌, ◌++◌, append_assoc}
-use Prim.Native.Nat.{ℕ, suc, ◌+◌, ◌-◌, ◌≤◌, ◌<◌}
+use mathlib.Core.List.{List, [], ◌∷◌, ◌++◌, map, reverse, reverse-cons}
+use Prim.Native.Nat.{ℕ, suc, ◌+◌, ◌≤◌, ◌<◌}
 use native.Mathlib.Numerals.{add-one}
-use native.Mathlib.Omega.{arith}
 use lib.IntN.{ℤ}
-use lib.ListN.{length, get_or, take, drop, drop_of_length-le}
-use lib.Seq.{take-suc, take_all, drop-cons, split_at, get_or-take}
+use lib.ListN.{length, get_or, take, drop}
+use lib.Seq.{take-suc, take_all, split_at}
 use Rattle.turtle.specs.declared.letter.Stroke.{Stroke}
 use Rattle.turtle.specs.Walk.{Sym}
 use Rattle.grammar.specs.Words.{mirrored, reversed}
-use Rattle.grammar.proofs.ReversalLaws.{reversed_cons, reversed_append}
+use Rattle.grammar.proofs.ReversalLaws.{reversed_cons}
+use Rattle.std.proofs.lemmas.List.{map-append}
+use denote.Bor.{Bor}
 use Rattle.sketch.specs.declared.pen.Pen.{Pen}
-use Rattle.sketch.specs.declared.word.Word.{Word}
-use Rattle.sketch.specs.Inside.Marks.{word_in, Whole, marks}
+use Rattle.sketch.specs.Inside.Marks.{marks}
 use Rattle.sketch.specs.Inside.Pens.{pen_after, inked, Room}
 use Rattle.sketch.proofs.MarkLaws.{marks_nil, marks_append, marks_short}
 use Rattle.sketch.proofs.PenLaws.{pen_append, ink_append, length_inked, room_front, room_rest}
@@ -51,44 +51,35 @@ module _ (k : ℕ) (b : ℕ) {done : List ℕ} {p₀ p : Pen} {out₀ out : List
         ink = n.1 ∙ (rw (so_far.pen, so_far.ink) (sym (ink_append (marks k done) m p₀ out₀))) ∙ ap (λ w. inked w p₀ out₀) (sym parts);
       }
 
--- ---- a word from its front, and from its end
-module _ (w : Word) (whole : Whole w) where
-  abbrev behind : ℕ → List ℕ
-  behind i = take i (word_in w)
+-- ---- a word from its front
+module _ (w : List ℕ) where
+  pub along_split : (i : ℕ) → i < length w → w ≡ take i w ++ (get_or w i 0 ∷ drop (suc i) w)
+  along_split i h = split_at w i 0 h
 
-  byte_in : (i : ℕ) → i < w.len → get_or (word_in w) i 0 ≡ get_or w.bytes i 0
-  byte_in i h = get_or-take w.len w.bytes i 0 h
+  pub along_more : (i : ℕ) → i < length w → take i w ++ (get_or w i 0 ∷ []) ≡ take (i + 1) w
+  along_more i h = sym (take-suc w i 0 h) ∙ ap (λ n. take n w) (sym (add-one i))
 
-  pub along_split : (i : ℕ) → i < w.len → word_in w ≡ behind i ++ (get_or w.bytes i 0 ∷ drop (suc i) (word_in w))
-  along_split i h = split_at (word_in w) i 0 (omega (arith, whole.size)) ∙ ap (λ b. behind i ++ (b ∷ drop (suc i) (word_in w))) (byte_in i h)
+  pub along_all : (i : ℕ) → length w ≤ i → take i w ≡ w
+  along_all i h = take_all i w h
 
-  pub along_more : (i : ℕ) → i < w.len → behind i ++ (get_or w.bytes i 0 ∷ []) ≡ behind (i + 1)
-  along_more i h = ap (λ b. behind i ++ (b ∷ [])) (sym (byte_in i h)) ∙ sym (take-suc (word_in w) i 0 (omega (arith, whole.size))) ∙ ap behind (sym (add-one i))
+-- ---- and from its end, each byte mirrored
+abbrev pub mirrors : List (Bor ℕ) → List ℕ
+mirrors xs = map mirrored (map (λ y. y.now) xs)
 
-  pub along_all : (i : ℕ) → w.len ≤ i → behind i ≡ word_in w
-  along_all i h = take_all i (word_in w) (omega (arith, whole.size))
+pub back_more : (xs : List (Bor ℕ)) (x : Bor ℕ) {b : ℕ} → b ≡ mirrored x.now → mirrors xs ++ (b ∷ []) ≡ mirrors (xs ++ (x ∷ []))
+back_more xs x e = rw (map-append, map-append) (ap (λ b. mirrors xs ++ (b ∷ [])) e)
 
-  abbrev after : ℕ → List ℕ
-  after i = reversed (drop i (word_in w))
+back_is : (w : List ℕ) → reversed w ≡ map mirrored (reverse w)
+back_is [] = unfold reversed in refl
+back_is (b ∷ w) = rw (reversed_cons, back_is w, reverse-cons, map-append)
 
-  pub back_none : after w.len ≡ []
-  back_none = ap reversed (drop_of_length-le (word_in w) {i = w.len} (omega (arith, whole.size))) ∙ (unfold reversed in refl)
+module _ (w : List ℕ) where
+  pub back_split : (xs : List (Bor ℕ)) (x : Bor ℕ) {b : ℕ} → b ≡ mirrored x.now → map (λ y. y.now) xs ≡ take (length xs) (reverse w) → (length xs < length (reverse w)) × (x.now ≡ get_or (reverse w) (length xs) x.now)
+      → reversed w ≡ mirrors xs ++ (b ∷ map mirrored (drop (suc (length xs)) (reverse w)))
+  back_split xs x {b} e f t =
+      let n = length xs in
+      let parts : reverse w ≡ map (λ y. y.now) xs ++ (x.now ∷ drop (suc n) (reverse w)) = split_at (reverse w) n x.now t.0 ∙ ap (λ c. take n (reverse w) ++ (c ∷ drop (suc n) (reverse w))) (sym t.1) ∙ ap (λ l. l ++ (x.now ∷ drop (suc n) (reverse w))) (sym f) in
+      back_is w ∙ ap (map mirrored) parts ∙ map-append mirrored (map (λ y. y.now) xs) (x.now ∷ drop (suc n) (reverse w)) ∙ ap (λ b. mirrors xs ++ (b ∷ map mirrored (drop (suc n) (reverse w)))) (sym e)
 
-  pub back_all : (i : ℕ) → i ≤ 0 → after i ≡ reversed (word_in w)
-  back_all i h = let z : i ≡ 0 = omega arith in ap after z
-
-  -- i is above 0, and b stands before it
-  module _ (i : ℕ) (some_left : 0 < i) (h : i ≤ w.len) {b : ℕ} (met : b ≡ mirrored (get_or w.bytes (i - 1) 0)) where
-    cons_at : drop (i - 1) (word_in w) ≡ get_or w.bytes (i - 1) 0 ∷ drop i (word_in w)
-    cons_at =
-        let up : suc (i - 1) ≡ i = omega arith in
-        drop-cons (word_in w) (i - 1) 0 (omega (arith, whole.size)) ∙ ap (λ b. b ∷ drop (suc (i - 1)) (word_in w)) (byte_in (i - 1) (omega arith)) ∙ ap (λ j. get_or w.bytes (i - 1) 0 ∷ drop j (word_in w)) up
-
-    pub back_more : after i ++ (b ∷ []) ≡ after (i - 1)
-    back_more = ap (λ b. after i ++ (b ∷ [])) met ∙ sym (reversed_cons _ _) ∙ ap reversed (sym cons_at)
-
-    pub back_split : reversed (word_in w) ≡ after i ++ (b ∷ reversed (take (i - 1) (word_in w)))
-    back_split =
-        ap reversed (split_at (word_in w) (i - 1) 0 (omega (arith, whole.size))) ∙ reversed_append (take (i - 1) (word_in w)) _
-        ∙ ap (λ l. reversed l ++ reversed (take (i - 1) (word_in w))) (sym (drop-cons (word_in w) (i - 1) 0 (omega (arith, whole.size))))
-        ∙ ap (λ l. l ++ reversed (take (i - 1) (word_in w))) (sym back_more) ∙ append_assoc (after i) (b ∷ []) _
+  pub back_all : (xs : List (Bor ℕ)) → map (λ y. y.now) xs ≡ reverse w → mirrors xs ≡ reversed w
+  back_all xs e = ap (map mirrored) e ∙ sym (back_is w)

@@ -1,3 +1,2 @@
 pub mod Drawings
-pub mod Answers
 pub mod Inside

@@ -5,9 +5,9 @@
 
 ghost use Rattle.std.specs.Prelude.{◌≡◌, ◌*◌, ◌^◌, ◌≤◌, length};
 ghost use Rattle.triple.specs.Lent.{count_of, after_call};
-ghost use Rattle.sketch.specs.Answers.{said_draw};
 ghost use Rattle.sketch.specs.Drawings.{draw_call};
 ghost use Rattle.sketch.specs.Inside.Pens.{start_of, Drawable};
+ghost use Rattle.triple.specs.Refusals.{said};
 
 use pen::Pen;
 use triple::domain::{position_count, row_count};
@@ -15,8 +15,7 @@ use triple::orientation::{GREATEST_ORIENTATION, recipe_of};
 use triple::refusal::Refusal;
 use turtle::AB;
 use turtle::walk::Turtle;
-use walk::forward;
-use word::word_of;
+use walk::met;
 
 mod pen;
 mod walk;
@@ -24,36 +23,29 @@ mod word;
 
 pub const GREATEST_PASSES: u8 = 6;
 
-// How many entries were written at the buffer's front. A refused call leaves the buffer as it was.
-#[derive(Clone, Copy)]
-pub enum DrawAnswer {
-    Written(usize),
-    Refused(Refusal),
-}
-
 // Draws the curve: x y z flavor of each cell, in the order of its positions.
-pub fn draw(orientation: u8, resolution: u8, out: &mut [i32]) -> DrawAnswer
-    ensures { (said_draw result ≡ count_of (draw_call orientation resolution) out.old) × (out.new ≡ after_call (draw_call orientation resolution) out.old) }
+pub fn draw(orientation: u8, resolution: u8, out: &mut [i32]) -> Result<usize, Refusal>
+    ensures { (said result ≡ count_of (draw_call orientation resolution) out.old) × (out.new ≡ after_call (draw_call orientation resolution) out.old) }
 {
     if resolution == 0 {
-        return DrawAnswer::Refused(Refusal::Passes);
+        return Err(Refusal::Passes);
     }
     if resolution > GREATEST_PASSES {
-        return DrawAnswer::Refused(Refusal::Passes);
+        return Err(Refusal::Passes);
     }
     if orientation > GREATEST_ORIENTATION {
-        return DrawAnswer::Refused(Refusal::Orientation);
+        return Err(Refusal::Orientation);
     }
     let cells = position_count(resolution);
     let entries = 4 * cells as usize;
     if out.len() < entries {
-        return DrawAnswer::Refused(Refusal::Room);
+        return Err(Refusal::Room);
     }
     fill(orientation, resolution, out);
-    DrawAnswer::Written(entries)
+    Ok(entries)
 }
 
-// The axiom's word walked, into a buffer that has room.
+// The axiom's letter walked, into a buffer that has room.
 fn fill(orientation: u8, resolution: u8, out: &mut [i32])
     requires { Drawable orientation resolution × (4 * 4 ^ resolution ≤ length out.old) }
     ensures { out.new ≡ after_call (draw_call orientation resolution) out.old }
@@ -68,8 +60,7 @@ fn fill(orientation: u8, resolution: u8, out: &mut [i32])
         cells: position_count(resolution),
         backward: recipe.backward,
     };
-    let axiom = b'A' + recipe.motif as u8;
-    forward(word_of(axiom, resolution + 1), resolution, pen, out);
+    met(b'A' + recipe.motif as u8, resolution + 1, pen, out);
 }
 
 // Where the walk starts. A step of (4, -4) is a triple's step of (-1, 1, 0), so that a walk that starts

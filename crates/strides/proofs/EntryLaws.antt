@@ -1,6 +1,6 @@
 -- What the code reads off an entry is the entry of the definition: each number fits its bits.
 use mathlib.Core.Path.{◌≡◌, refl, sym, ap, ◌∙◌}
-use Prim.Native.Nat.{ℕ, zero, suc, ◌+◌, ◌*◌, ◌/◌, ◌%◌, ◌^◌, ◌<◌}
+use Prim.Native.Nat.{ℕ, ◌+◌, ◌*◌, ◌/◌, ◌%◌, ◌<◌}
 use native.Mathlib.Omega.{arith}
 use native.Mathlib.Decide.{dec_lt}
 use borrow.Author.Tests.{lt-ltb, le-ltb}
@@ -8,7 +8,7 @@ use Rattle.strides.specs.declared.Walk.{Walk}
 use Rattle.strides.specs.declared.End.{End}
 use Rattle.strides.specs.declared.Search.{Search}
 use Rattle.strides.specs.Inside.Tiles.{entry_below, tile_below, digit_below, last_of}
-use Rattle.strides.specs.Inside.Entries.{walk_entry, end_entry, search_entry, end_word}
+use Rattle.strides.specs.Inside.Entries.{walk_entry, end_entry, search_entry}
 use Rattle.strides.specs.Walks.{on_row_of, three_down, end_below, walk_step, walk_end}
 use Rattle.strides.specs.Searches.{on_tile, below, three_below, digits_below, search_step, search_end}
 use Rattle.strides.proofs.Rows.{three_x, three_row, three_whole, end_x, end_y}
@@ -115,23 +115,3 @@ end_small i = elim (dec_lt i 2624) [
   | yes h ↦ rw (lt-ltb i 2624 h) (digits_small (i / 64) (i % 64) (omega arith))
   | no h ↦ rw (le-ltb i 2624 (omega arith)) (omega arith)
 ]
-
--- one of four
-module _ (a b c d : ℕ) (la : a < 256) (lb : b < 256) (lc : c < 256) (ld : d < 256) where
-  four : let w = a + 256 * (b + 256 * (c + 256 * d)) in (w / 2 ^ 0 % 256 ≡ a) × ((w / 2 ^ 8 % 256 ≡ b) × ((w / 2 ^ 16 % 256 ≡ c) × (w / 2 ^ 24 % 256 ≡ d)))
-  four = (omega arith, (omega arith, (omega arith, omega arith)))
-
-module _ (m : ℕ) where
-  ends_in : let w = end_word m in (w / 2 ^ 0 % 256 ≡ search_end (4 * m)) × ((w / 2 ^ 8 % 256 ≡ search_end (4 * m + 1)) × ((w / 2 ^ 16 % 256 ≡ search_end (4 * m + 2)) × (w / 2 ^ 24 % 256 ≡ search_end (4 * m + 3))))
-  unfolding end_word
-  ends_in = four (search_end (4 * m)) (search_end (4 * m + 1)) (search_end (4 * m + 2)) (search_end (4 * m + 3)) (end_small _) (end_small _) (end_small _) (end_small _)
-
-  end_in : (j : ℕ) → j < 4 → end_word m / 2 ^ (8 * j) % 256 ≡ search_end (4 * m + j)
-  end_in zero l = let e : 4 * m ≡ 4 * m + 0 = omega arith in ends_in.0 ∙ ap search_end e
-  end_in (suc zero) l = ends_in.1.0
-  end_in (suc (suc zero)) l = ends_in.1.1.0
-  end_in (suc (suc (suc zero))) l = ends_in.1.1.1
-  end_in (suc (suc (suc (suc j)))) l = let z : ⊥ = omega arith in absurd z
-
-pub end_word_is : (i w : ℕ) → w ≡ end_word (i / 4) → w / 2 ^ (8 * (i % 4)) % 256 ≡ search_end i
-end_word_is i w e = let f : 4 * (i / 4) + i % 4 ≡ i = omega arith in ap (λ w. w / 2 ^ (8 * (i % 4)) % 256) e ∙ end_in (i / 4) (i % 4) (omega arith) ∙ ap search_end f

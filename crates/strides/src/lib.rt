@@ -1,17 +1,16 @@
 // Answers for A5's curve three levels a look: where three digits lead from a state, which cell two digits and a
 // leaf's lead to, which tile and digits three bits of a spot lead to, and the last digits of all. Each is one
 // load from a table. The walks and searches that go by these looks are `lsystem`'s; what the tables hold is read
-// off `a5`'s table, and that a `match` is such a table is `arms`'s.
+// off `a5`'s table.
 #![tactic(auto)]
 
-ghost use Rattle.std.specs.Prelude.{◌≡◌};
+ghost use Rattle.std.specs.Prelude.{◌≡◌, slice_index_or};
 ghost use Rattle.strides.specs.Walks.{walk_step, walk_end};
 ghost use Rattle.strides.specs.Searches.{search_step, search_end};
 
-mod search_ends;
-mod search_steps;
-mod walk_ends;
-mod walk_steps;
+use entries::{SEARCH_ENDS, SEARCH_STEPS, WALK_ENDS, WALK_STEPS};
+
+mod entries;
 
 // Where a walk is: the first entry of a state's row, and the beginning of the state's footprint, in units of its
 // own scale, as seen from where the walk began. A spot's third number is not carried: the parity of its cell and
@@ -39,11 +38,18 @@ pub struct Search {
     pub s: u64,
 }
 
+// The entry at a place of a table, and past its end `none`.
+fn entry_of<T: Copy>(table: &[T], i: u64, none: T) -> T
+    ensures { result ≡ slice_index_or table.now i none }
+{
+    table.get(i as usize).copied().unwrap_or(none)
+}
+
 // Entry 64 * k + c: three levels down from the row k by the three digits of c.
 pub fn walk_step(i: u64) -> Walk
     ensures { result ≡ walk_step i }
 {
-    let e = walk_steps::entry(i);
+    let e = entry_of(&WALK_STEPS, i, 0);
     Walk {
         x: (e % 16) as u64,
         y: (e / 2048) as u64,
@@ -55,7 +61,7 @@ pub fn walk_step(i: u64) -> Walk
 pub fn walk_end(i: u64) -> End
     ensures { result ≡ walk_end i }
 {
-    let e = walk_ends::entry(i);
+    let e = entry_of(&WALK_ENDS, i, 0);
     End {
         x: (e % 16) as u64,
         flavor: (e / 512) as u8,
@@ -67,7 +73,7 @@ pub fn walk_end(i: u64) -> End
 pub fn search_step(i: u64) -> Search
     ensures { result ≡ search_step i }
 {
-    let e = search_steps::entry(i);
+    let e = entry_of(&SEARCH_STEPS, i, 0);
     Search {
         row: (64 * (e / 64)) as u64,
         s: (e % 64) as u64,
@@ -78,5 +84,5 @@ pub fn search_step(i: u64) -> Search
 pub fn search_end(i: u64) -> u64
     ensures { result ≡ search_end i }
 {
-    ((search_ends::word(i / 4) >> (8 * (i % 4))) % 256) as u64
+    entry_of(&SEARCH_ENDS, i, 0) as u64
 }

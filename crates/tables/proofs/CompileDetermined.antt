@@ -7,12 +7,13 @@ use native.Mathlib.Omega.{arith}
 use lib.IntN.{ℤ}
 use lib.ListN.{length, get_or}
 use borrow.Author.Tests.{le-ltb}
+use Rattle.std.specs.Prelude.{Result, Ok, Err}
 use Rattle.triple.specs.Refusals.{told}
 use Rattle.triple.proofs.Determined.{one_to_one, determined, refusal_of, numbered}
 use Rattle.grammar.specs.Texts.{lines_of}
 use Rattle.grammar.specs.Curves.{drawing, token_bytes, letter_of}
 use Rattle.grammar.specs.Tests.{fine}
-use Rattle.tables.specs.declared.compiler.CompileAnswer.{CompileAnswer}
+use Rattle.tables.specs.declared.compiler.CompileError.{CompileError}
 use Rattle.tables.specs.Children.{no_cell}
 use Rattle.tables.specs.Compiler.{Compiled, states, faulty, refused, said_compiled, compiled_in, compiled_to, after_compile, table_for, state_count}
 use Rattle.tables.specs.Descent.{descent_in}
@@ -23,25 +24,25 @@ use Rattle.tables.proofs.Compiled.{compiled_descends}
 use Rattle.tables.proofs.Entries.{length_table}
 use Rattle.tables.proofs.PartLaws.{with_part_length, with_part_back}
 
-answer_of : Compiled → CompileAnswer
-answer_of (states n) = CompileAnswer.States n
-answer_of (faulty n line) = CompileAnswer.Fault (refusal_of n) line
-answer_of (refused n) = CompileAnswer.Refused (refusal_of n)
+answer_of : Compiled → Result ℕ CompileError
+answer_of (states n) = Ok n
+answer_of (faulty n line) = Err (CompileError.Fault (record { refusal = refusal_of n; line = line }))
+answer_of (refused n) = Err (CompileError.Refused (refusal_of n))
 
-answered : (a : CompileAnswer) → answer_of (said_compiled a) ≡ a
+answered : (a : Result ℕ CompileError) → answer_of (said_compiled a) ≡ a
 unfolding answer_of
-answered (CompileAnswer.States n) = refl
-answered (CompileAnswer.Fault e line) = ap (λ e. CompileAnswer.Fault e line) (numbered e)
-answered (CompileAnswer.Refused e) = ap CompileAnswer.Refused (numbered e)
+answered (Ok n) = refl
+answered (Err (CompileError.Fault f)) = ap (λ e. Err (CompileError.Fault (record { refusal = e; line = f.line }))) (numbered f.refusal)
+answered (Err (CompileError.Refused e)) = ap (λ e. Err (CompileError.Refused e)) (numbered e)
 
-said_compiled_one_to_one : (a b : CompileAnswer) → said_compiled a ≡ said_compiled b → a ≡ b
+said_compiled_one_to_one : (a b : Result ℕ CompileError) → said_compiled a ≡ said_compiled b → a ≡ b
 said_compiled_one_to_one = one_to_one said_compiled answer_of answered
 
-pub compile_determined : (text : List ℕ) (table : List ℤ) (start : ℕ) (a b : CompileAnswer) (x y : List ℤ)
+pub compile_determined : (text : List ℕ) (table : List ℤ) (start : ℕ) (a b : Result ℕ CompileError) (x y : List ℤ)
     → (said_compiled a ≡ compiled_to text table start) × (x ≡ after_compile text table start) → (said_compiled b ≡ compiled_to text table start) × (y ≡ after_compile text table start) → (a ≡ b) × (x ≡ y)
 compile_determined text table start a b x y p q = (said_compiled_one_to_one a b (p.0 ∙ sym q.0), p.1 ∙ sym q.1)
 
-pub judge_determined : (text : List ℕ) (size start : ℕ) (a b : CompileAnswer) → said_compiled a ≡ compiled_in text size start → said_compiled b ≡ compiled_in text size start → a ≡ b
+pub judge_determined : (text : List ℕ) (size start : ℕ) (a b : Result ℕ CompileError) → said_compiled a ≡ compiled_in text size start → said_compiled b ≡ compiled_in text size start → a ≡ b
 judge_determined text size start = determined said_compiled said_compiled_one_to_one
 
 pub past_determined : (size start count : ℕ) (a b : Bool) → a ≡ is_past size start count → b ≡ is_past size start count → a ≡ b

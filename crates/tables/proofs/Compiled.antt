@@ -10,10 +10,10 @@ use borrow.Author.Tests.{le-leb, lt-leb, le-ltb, lt-ltb, eq-eqb, ne_eqb}
 use lib.Dec.{T, le→leb, ltb→lt}
 use lib.IntN.{nat_abs}
 use lib.ListN.{length, get_or}
+use Rattle.std.specs.Prelude.{Option, Some, None}
 use Rattle.whole.proofs.Bools.{is_true}
 use Rattle.triple.specs.Refusals.{told}
 use Rattle.turtle.specs.declared.AB.{AB}
-use Rattle.turtle.specs.declared.letter.Flavor.{Flavor}
 use Rattle.turtle.specs.Plane.{signed, flipped}
 use Rattle.grammar.specs.Texts.{Line, lines_of}
 use Rattle.grammar.specs.Curves.{drawing, token_bytes, letter_of}
@@ -32,9 +32,9 @@ use Rattle.tables.proofs.SizeLaws.{small_abs, signed_small, offset_small, leaf_s
 use Rattle.tables.proofs.ReadableLaws.{below_by, readable_child_lem, readable_flavor_lem, readable_state_lem}
 
 -- a flavor that there is, as a table has it
-flavor_number_lem : (f : Flavor) → T (is_flavor f) → T (readable_flavor (flavor_number f))
-flavor_number_lem (Flavor.Of f) t = readable_flavor_lem f (ltb→lt f 4 t)
-flavor_number_lem Flavor.None t = absurd t
+flavor_number_lem : (f : Option ℕ) → T (is_flavor f) → T (readable_flavor (flavor_number f))
+flavor_number_lem (Some f) t = readable_flavor_lem f (ltb→lt f 4 t)
+flavor_number_lem None t = absurd t
 
 bit_small : (f : Bool) → bit f ≤ 1
 bit_small true = omega arith

@@ -10,11 +10,11 @@ use mir.Syntax.{w64}
 use mir.Val.{Fits}
 use borrow.Author.Tests.{ltb-false}
 use borrow.Rule.Slice.PartMut.{put_mid}
-use Rattle.triple.specs.declared.refusal.Refusal.{Refusal}
+use Rattle.std.specs.Prelude.{Result, Ok, Err}
 use Rattle.triple.specs.declared.refusal.Refusal.TheVariants.{Part, Split}
 use Rattle.triple.specs.Refusals.{number_of}
 use Rattle.grammar.specs.declared.lines.Lines.{Lines}
-use Rattle.grammar.specs.declared.tests.TextAnswer.{TextAnswer}
+use Rattle.grammar.specs.declared.tests.Fault.{Fault}
 use Rattle.grammar.specs.Texts.{lines_of}
 use Rattle.grammar.specs.Curves.{token_bytes}
 use Rattle.grammar.specs.Scans.{scan_of}
@@ -28,9 +28,9 @@ use Rattle.grammar.proofs.GoodLineLaws.{rows_fine}
 use Rattle.whole.proofs.Fill.{fronted}
 use Rattle.whole.proofs.Slices.{all_from}
 use Rattle.tables.specs.declared.Source.{Source}
-use Rattle.tables.specs.declared.compiler.CompileAnswer.{CompileAnswer}
+use Rattle.tables.specs.declared.compiler.CompileError.{CompileError}
 use Rattle.tables.specs.Compiler.{Compiled, states, faulty, refused, said_compiled, compiled_in, compiled_to, after_compile, table_for, state_count, unless, written}
-use Rattle.tables.specs.Inside.Sources.{letters_in, Holds, Ready}
+use Rattle.tables.specs.Inside.Sources.{letters_in, Ready}
 use Rattle.tables.specs.Parts.{is_past, with_part}
 use Rattle.tables.specs.Verdicts.{bad_split, split_tests, verdict}
 use Rattle.tables.proofs.Entries.{length_table}
@@ -39,13 +39,13 @@ use Rattle.tables.proofs.RuleChildLaws.{length_letters}
 use Rattle.tables.proofs.StateWriteLaws.{table_long}
 
 -- ---- by 12 to 19
-module _ (text : List ℕ) {a : TextAnswer} (said : said_text a ≡ text_tests text fine) where
-  module _ {e : Refusal} {line : ℕ} (f : a ≡ TextAnswer.Fault e line) where
-    faulty_text : verdict text ≡ fault (number_of e) line
+module _ (text : List ℕ) {a : Result (Unit {0}) Fault} (says : said_text a ≡ text_tests text fine) where
+  module _ {d : Fault} (f : a ≡ Err d) where
+    faulty_text : verdict text ≡ fault (number_of d.refusal) d.line
     unfolding verdict
-    faulty_text = fault_stops text (sym said ∙ ap said_text f) (split_tests (lines_of text))
+    faulty_text = fault_stops text (sym says ∙ ap said_text f) (split_tests (lines_of text))
 
-    pub text_faulty : (size start : ℕ) → faulty (number_of e) line ≡ compiled_in text size start
+    pub text_faulty : (size start : ℕ) → faulty (number_of d.refusal) d.line ≡ compiled_in text size start
     unfolding compiled_in
     text_faulty size start = rw faulty_text refl
 
@@ -53,9 +53,9 @@ module _ (text : List ℕ) {a : TextAnswer} (said : said_text a ≡ text_tests t
     unfolding after_compile
     text_kept table start = ap (λ c. written c (with_part table start (table_for text)) table) (text_faulty (length table) start)
 
-  pub text_ready : a ≡ TextAnswer.Fine → {ls : Lines} → ls ≡ (scan_of text).lines → {s : Source} → s.lines ≡ ls → Holds 52 s → ((text : List ℕ) → letters_in s ≡ token_bytes (lines_by text ls)) → Ready text s
-  text_ready e {ls} read kept held tokens =
-      let fair : text_tests text fine ≡ fine = sym said ∙ ap said_text e in
+  pub text_ready : a ≡ Ok tt → {ls : Lines} → ls ≡ (scan_of text).lines → {s : Source} → s.lines ≡ ls → ((text : List ℕ) → letters_in s ≡ token_bytes (lines_by text ls)) → Ready text s
+  text_ready e {ls} read kept tokens =
+      let fair : text_tests text fine ≡ fine = sym says ∙ ap said_text e in
       let places : Places text ls (lines_of text) = rw read (scan_places text (rows_fine text fine fair)) in
       let lines = places_lines places in
       record {
@@ -63,7 +63,6 @@ module _ (text : List ℕ) {a : TextAnswer} (said : said_text a ≡ text_tests t
         lines = ap (lines_by text) kept ∙ lines;
         fair = fair;
         tokens = tokens text ∙ ap token_bytes lines;
-        held = held;
       }
 
 pub ruleset by_text = (text_faulty, text_kept, text_ready)
@@ -123,24 +122,22 @@ module _ (text : List ℕ) (size start : ℕ) where
 -- ---- what the compiler leaves, by what it answers
 leaves : (text : List ℕ) (table : List ℤ) (start : ℕ) {c : Compiled} → c ≡ compiled_to text table start → written c (with_part table start (table_for text)) table ≡ after_compile text table start
 unfolding after_compile
-leaves text table start said = ap (λ c. written c (with_part table start (table_for text)) table) said
+leaves text table start says = ap (λ c. written c (with_part table start (table_for text)) table) says
 
-module _ (text : List ℕ) (table : List ℤ) (start : ℕ) {a : CompileAnswer} (said : said_compiled a ≡ compiled_to text table start) where
-  pub faulty_told : {e : Refusal} {line : ℕ} → a ≡ CompileAnswer.Fault e line → faulty (number_of e) line ≡ compiled_to text table start
-  faulty_told f = ap said_compiled (sym f) ∙ said
+module _ (text : List ℕ) (table : List ℤ) (start : ℕ) {a : Result ℕ CompileError} (says : said_compiled a ≡ compiled_to text table start) where
+  pub error_told : {x : CompileError} → a ≡ Err x → said_compiled (Err x) ≡ compiled_to text table start
+  error_told f = ap said_compiled (sym f) ∙ says
 
-  pub faulty_kept : {e : Refusal} {line : ℕ} → a ≡ CompileAnswer.Fault e line → table ≡ after_compile text table start
-  faulty_kept f = leaves text table start (faulty_told f)
+  pub error_kept : {x : CompileError} → a ≡ Err x → table ≡ after_compile text table start
+  error_kept {x} f = go x f
+    where
+      go : (x : CompileError) → a ≡ Err x → table ≡ after_compile text table start
+      go (CompileError.Fault d) f = leaves text table start (error_told f)
+      go (CompileError.Refused e) f = leaves text table start (error_told f)
 
-  pub refused_told : {e : Refusal} → a ≡ CompileAnswer.Refused e → refused (number_of e) ≡ compiled_to text table start
-  refused_told f = ap said_compiled (sym f) ∙ said
-
-  pub refused_kept : {e : Refusal} → a ≡ CompileAnswer.Refused e → table ≡ after_compile text table start
-  refused_kept f = leaves text table start (refused_told f)
-
-  module _ {k : ℕ} (f : a ≡ CompileAnswer.States k) where
+  module _ {k : ℕ} (f : a ≡ Ok k) where
     pub states_told : states k ≡ compiled_to text table start
-    states_told = ap said_compiled (sym f) ∙ said
+    states_told = ap said_compiled (sym f) ∙ says
 
     part_within : start + length (table_for text) ≤ length table
     part_within = let w = when_states text (length table) start states_told in omega (arith, w.1.0, w.1.1, length_table (lines_of text))
@@ -157,4 +154,4 @@ module _ (text : List ℕ) (table : List ℤ) (start : ℕ) {a : CompileAnswer} 
     pub states_put : {last : List ℤ} → last ≡ fronted (table_for text) (take (length table - start) (drop start table)) → put_mid start (length table - start) table last ≡ after_compile text table start
     states_put e = part_put table start (table_for text) part_within e ∙ leaves text table start states_told
 
-pub ruleset by_answer = (faulty_told, faulty_kept, refused_told, refused_kept, states_told, start_within, start_scaled, states_room, states_put)
+pub ruleset by_answer = (error_told, error_kept, states_told, start_within, start_scaled, states_room, states_put)

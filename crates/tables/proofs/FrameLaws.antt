@@ -1,22 +1,24 @@
 -- A state's children in its frame, in the form of what the code has in hand.
 use mathlib.Core.Path.{◌≡◌, refl, sym, ap, ◌∙◌, subst}
-use mathlib.Core.Bool.{Bool, true, false, not}
+use mathlib.Core.Bool.{Bool, true, false, not, beq}
 use mathlib.Core.List.{List, [], ◌∷◌, map}
-use Prim.Native.Nat.{ℕ, suc, ◌+◌, ◌*◌, ◌^◌, ◌%◌, ◌<◌, ◌≤◌}
+use Prim.Native.Nat.{ℕ, zero, suc, ◌+◌, ◌*◌, ◌%◌, ◌<◌, ◌≤◌}
 use native.Mathlib.Omega.{arith}
 use lib.IntN.{ℤ, pos, neg_ℤ, ◌+ℤ◌, ◌-ℤ◌}
-use lib.Signed.{mag}
-use lib.ListN.{length, get_or, get_or-map}
-use mir.Syntax.{w8, w64}
+use lib.ListN.{length, get_or, get_or-map, set, length-set}
+use Rattle.std.proofs.Common.{◌≢◌, get_or-set_same, get_or-set_other}
+use borrow.Author.Count.{below_more}
+use native.Mathlib.Numerals.{add-one}
+use mir.Syntax.{w64}
 use mir.Val.{SFits, to_z, of_z}
-use Rattle.whole.proofs.View.{view, eq_by, fits, kept}
+use Rattle.whole.proofs.View.{view, eq_by, fits}
 use Rattle.turtle.specs.declared.AB.{AB}
 use Rattle.turtle.specs.Plane.{ab, origin, ◌⊕◌, neg, signed, flipped, facing}
 use Rattle.turtle.specs.Inside.Sizes.{Within, Small}
 use Rattle.turtle.specs.declared.letter.Stroke.{Stroke}
 use Rattle.turtle.specs.declared.walk.Turtle.{Turtle}
 use Rattle.turtle.specs.Walk.{Sym, left, right, letter, turtle, move}
-use Rattle.turtle.proofs.PlaneLaws.{⊕_assoc, ⊕_idr, signed_origin}
+use Rattle.turtle.proofs.PlaneLaws.{⊕_assoc, ⊕_idl, ⊕_idr, signed_origin}
 use Rattle.turtle.proofs.WalkLaws.{v_small, small_more, add_small}
 use Rattle.classifier.specs.declared.Corner.{Corner}
 use Rattle.classifier.specs.declared.Hull.{Hull}
@@ -24,7 +26,6 @@ use Rattle.classifier.specs.declared.Placed.{Placed}
 use Rattle.classifier.specs.Hulls.{hull}
 use Rattle.classifier.specs.Shapes.{point_of, no_corner, hull_by, points_of, placed_corners, polygons_of}
 use Rattle.classifier.proofs.HullLaws.{points_by}
-use Rattle.classifier.proofs.ComparisonLaws.{v_i8}
 use Rattle.grammar.specs.Texts.{Line, lines_of}
 use Rattle.grammar.specs.Curves.{strokes, net, letter_of, letter_count}
 use Rattle.grammar.specs.Tests.{fine}
@@ -39,19 +40,18 @@ use Rattle.tables.specs.Inside.Frames.{starts, ChildrenOf}
 use Rattle.tables.specs.Inside.Leaves.{IsDrawn}
 use Rattle.tables.specs.Inside.Sources.{Ready}
 use Rattle.classifier.proofs.HullSizes.{hull_long}
-use Rattle.tables.proofs.LeafLaws.{four_strokes}
+use Rattle.tables.proofs.LeafLaws.{four_strokes, origin_small}
 use Rattle.tables.proofs.Follow.{child_bound}
 use Rattle.tables.proofs.RuleChildLaws.{length_letters}
 use Rattle.tables.proofs.SizeLaws.{signed_small}
 
 -- ---- flips
-pub flipped_on : (g : Bool) {f : Bool} → f ≡ true → not g ≡ flipped f g
+pub flipped_is : (f g : Bool) → not (beq f g) ≡ flipped f g
 unfolding flipped
-flipped_on g e = rw e refl
-
-pub flipped_off : {f g : Bool} → f ≡ false → g ≡ flipped f g
-unfolding flipped
-flipped_off e = rw e refl
+flipped_is true true = refl
+flipped_is true false = refl
+flipped_is false true = refl
+flipped_is false false = refl
 
 pub signed_on : {f : Bool} {p q : AB} → f ≡ true → Small 96 p → q ≡ ab (to_z w64 (of_z w64 (pos 0 -ℤ to_z w64 (of_z w64 p.a)))) (to_z w64 (of_z w64 (pos 0 -ℤ to_z w64 (of_z w64 p.b)))) → q ≡ signed f p
 unfolding signed neg
@@ -66,9 +66,6 @@ pub signed_off : {f : Bool} {p : AB} → f ≡ false → p ≡ signed f p
 unfolding signed
 signed_off e = rw e refl
 
-pub opposite_fits : {z : ℤ} → Within 96 z → SFits w64 (pos 0 -ℤ to_z w64 (of_z w64 z))
-opposite_fits w = let v = v_small w in fits (search view depth 9) tt
-
 pub sum_fits : {y z : ℤ} → Within 64 y → Within 32 z → SFits w64 (to_z w64 (of_z w64 y) +ℤ to_z w64 (of_z w64 z))
 sum_fits u w = let v = v_small u in let x = v_small w in fits (search view depth 9) tt
 
@@ -81,12 +78,6 @@ summed {p} {q} {r} s t made =
     let qb = v_small t.b in
     let ea : to_z w64 (of_z w64 (to_z w64 (of_z w64 p.a) +ℤ to_z w64 (of_z w64 q.a))) ≡ p.a +ℤ q.a = eq_by (search view depth 9) (search view depth 9) tt (omega arith) in
     let eb : to_z w64 (of_z w64 (to_z w64 (of_z w64 p.b) +ℤ to_z w64 (of_z w64 q.b))) ≡ p.b +ℤ q.b = eq_by (search view depth 9) (search view depth 9) tt (omega arith) in
-    made ∙ rw (ea, eb) refl
-
-pub pointed : {c : Corner} {p : AB} → mag c.a < 2 ^ 7 → mag c.b < 2 ^ 7 → p ≡ ab (to_z w64 (of_z w64 (to_z w8 (of_z w8 c.a)))) (to_z w64 (of_z w64 (to_z w8 (of_z w8 c.b)))) → p ≡ point_of c
-pointed {c} {p} a b made =
-    let ea = kept w64 (kept w8 refl (v_i8 c.a a) tt) (v_i8 c.a a) tt in
-    let eb = kept w64 (kept w8 refl (v_i8 c.b b) tt) (v_i8 c.b b) tt in
     made ∙ rw (ea, eb) refl
 
 -- ---- strides, and footprints where they stand
@@ -128,18 +119,19 @@ length_along h (letter m ∷ w) = ap suc (length_along h w)
 stride : List Line → Child → AB
 stride ls c = signed c.flip (net ls 1 (letter_of ls c.token))
 
-offsets_are : (ls : List Line) (cs : List Child) → length cs ≡ 4 →
-    let s0 = stride ls (get_or cs 0 no_child) in
-    let s1 = stride ls (get_or cs 1 no_child) in
-    let s2 = stride ls (get_or cs 2 no_child) in
-    (offset_after ls 1 cs 1 ≡ s0) × ((offset_after ls 1 cs 2 ≡ s0 ⊕ s1) × (offset_after ls 1 cs 3 ≡ s0 ⊕ s1 ⊕ s2))
+offset_more : (ls : List Line) (cs : List Child) (d : ℕ) → d < length cs → offset_after ls 1 cs (suc d) ≡ offset_after ls 1 cs d ⊕ stride ls (get_or cs d no_child)
 unfolding offset_after stride
-offsets_are ls (c ∷ d ∷ e ∷ f ∷ []) h = (⊕_idr _, (rw ⊕_idr refl, rw ⊕_idr (sym (⊕_assoc _ _ _))))
-offsets_are ls [] h = absurd (omega arith)
-offsets_are ls (c ∷ []) h = absurd (omega arith)
-offsets_are ls (c ∷ d ∷ []) h = absurd (omega arith)
-offsets_are ls (c ∷ d ∷ e ∷ []) h = absurd (omega arith)
-offsets_are ls (c ∷ d ∷ e ∷ f ∷ g ∷ cs) h = absurd (omega arith)
+offset_more ls [] d h = absurd (omega arith)
+offset_more ls (c ∷ cs) zero h = ⊕_idr _ ∙ sym (⊕_idl _)
+offset_more ls (c ∷ cs) (suc d) h = ap (λ p. stride ls c ⊕ p) (offset_more ls cs d (omega arith)) ∙ sym (⊕_assoc _ _ _)
+
+list_of_four : {A : Type 0} (l : List A) (z : A) → length l ≡ 4 → l ≡ get_or l 0 z ∷ get_or l 1 z ∷ get_or l 2 z ∷ get_or l 3 z ∷ []
+list_of_four (a ∷ b ∷ c ∷ d ∷ []) z h = refl
+list_of_four [] z h = absurd (omega arith)
+list_of_four (a ∷ []) z h = absurd (omega arith)
+list_of_four (a ∷ b ∷ []) z h = absurd (omega arith)
+list_of_four (a ∷ b ∷ c ∷ []) z h = absurd (omega arith)
+list_of_four (a ∷ b ∷ c ∷ d ∷ e ∷ l) z h = absurd (omega arith)
 
 -- ---- the children of a token
 module _ {text : List ℕ} {s : Source} {m : ℕ} {cs : List Child} (of : ChildrenOf text s m cs) where
@@ -156,32 +148,56 @@ module _ {text : List ℕ} {s : Source} {m : ℕ} {cs : List Child} (of : Childr
   pub child_below : (d : ℕ) → d < 4 → (get_or cs d no_child).token < s.count
   child_below d h = rw (child_at d, length_letters of.ready) (child_bound ls (accepted text fine of.ready.fair) (linked text fine of.ready.fair) m d (rw (sym (length_letters of.ready)) of.below) h)
 
-  module _ {s0 s1 s2 p q : AB}
-      (e0 : (s0 ≡ signed (get_or cs 0 no_child).flip (net ls 1 (letter_of ls (get_or cs 0 no_child).token))) × Small 32 s0)
-      (e1 : (s1 ≡ signed (get_or cs 1 no_child).flip (net ls 1 (letter_of ls (get_or cs 1 no_child).token))) × Small 32 s1)
-      (e2 : (s2 ≡ signed (get_or cs 2 no_child).flip (net ls 1 (letter_of ls (get_or cs 2 no_child).token))) × Small 32 s2)
-      (f : p ≡ s0 ⊕ s1) (g : q ≡ p ⊕ s2) where
-    pub starts_are : (flip : Bool) {u v w : Corner} → point_of u ≡ signed flip s0 → point_of v ≡ signed flip p → point_of w ≡ signed flip q
-        → ◌≡◌ {A = List AB} (ab (pos 0) (pos 0) ∷ point_of u ∷ point_of v ∷ point_of w ∷ []) (starts ls m flip)
-    unfolding starts offset offset_after stride origin
-    starts_are flip {u} {v} {w} eu ev ew =
-        let o = offsets_are ls cs four in
-        let same : (d : ℕ) → offset_after ls 1 cs d ≡ offset ls m d = λ d. ap (λ l. offset_after ls 1 l d) of.are in
-        let a : s0 ≡ offset ls m 1 = e0.0 ∙ sym o.0 ∙ same 1 in
-        let two : s0 ⊕ s1 ≡ offset_after ls 1 cs 2 = rw (e0.0, e1.0) (sym o.1.0) in
-        let three : s0 ⊕ s1 ⊕ s2 ≡ offset_after ls 1 cs 3 = rw (e0.0, e1.0, e2.0) (sym o.1.1) in
-        let b : p ≡ offset ls m 2 = f ∙ two ∙ same 2 in
-        let c : q ≡ offset ls m 3 = g ∙ ap (λ p. p ⊕ s2) f ∙ three ∙ same 3 in
-        rw (eu, ev, ew, a, b, c) (ap (λ z. z ∷ signed flip (offset ls m 1) ∷ signed flip (offset ls m 2) ∷ signed flip (offset ls m 3) ∷ []) (sym (signed_origin flip)))
+  -- the first d of the strides are added up, and the places behind them are known
+  pub record Starting (flip : Bool) (at : AB) (list : List Corner) (d : ℕ) : Type 0 where
+    pub long : length list ≡ 4
+    pub sum : at ≡ offset_after ls 1 cs d
+    pub small : Small (32 * d) at
+    pub known : (k : ℕ) → k < d + 1 → point_of (get_or list k no_corner) ≡ signed flip (offset_after ls 1 cs k)
 
-  pub second_near : {s0 s1 p : AB} → Small 32 s0 → Small 32 s1 → p ≡ s0 ⊕ s1 → Small 64 p
-  second_near h k e = subst (Small 64) (sym e) (add_small h k)
+  pub starting : (flip : Bool) {at : AB} → at ≡ ab (pos 0) (pos 0) → Starting flip at (no_corner ∷ no_corner ∷ no_corner ∷ no_corner ∷ []) 0
+  unfolding offset_after origin
+  starting flip e = record { long = refl; sum = e; small = origin_small e; known = none }
+    where
+      none : (k : ℕ) → k < 0 + 1 → point_of (get_or (no_corner ∷ no_corner ∷ no_corner ∷ no_corner ∷ []) k no_corner) ≡ signed flip (offset_after ls 1 cs k)
+      none zero h = sym (signed_origin flip)
+      none (suc k) h = absurd (omega arith)
 
-  pub third_near : {p s2 q : AB} → Small 64 p → Small 32 s2 → q ≡ p ⊕ s2 → Small 96 q
-  third_near h k e = subst (Small 96) (sym e) (add_small h k)
+  pub sum_small : {flip : Bool} {at : AB} {list : List Corner} {d : ℕ} → Starting flip at list d → d < 3 → {stride z : AB} → (stride ≡ z) × Small 32 stride → Small 64 at × Small 32 stride
+  sum_small so_far h one = (small_more (omega arith) so_far.small, one.1)
 
-  pub signed_near : {n : ℕ} → n ≤ 96 → {p q : AB} → Small n p → (flip : Bool) → q ≡ signed flip p → Small 120 q
-  signed_near h s flip e = subst (Small 120) (sym e) (small_more (omega arith) (signed_small flip s))
+  module _ {flip : Bool} {at : AB} {list : List Corner} {d : ℕ} (so_far : Starting flip at list d) (h : d < 3) {stride next : AB}
+      (one : (stride ≡ signed (get_or cs d no_child).flip (net ls 1 (letter_of ls (get_or cs d no_child).token))) × Small 32 stride) (e : next ≡ at ⊕ stride) where
+    next_small : Small (32 * d + 32) next
+    next_small = subst (Small (32 * d + 32)) (sym e) (add_small so_far.small one.1)
+
+    pub next_near : Small 96 next
+    next_near = small_more (omega arith) next_small
+
+    pub signed_near : {q : AB} → q ≡ signed flip next → Small 120 q
+    signed_near f = subst (Small 120) (sym f) (small_more (omega arith) (signed_small flip next_small))
+
+    pub starting_next : {c : Corner} → point_of c ≡ signed flip next → Starting flip next (set list (d + 1) c) (d + 1)
+    unfolding stride
+    starting_next {c} f =
+        let sum : next ≡ offset_after ls 1 cs (d + 1) = rw add-one (e ∙ rw (so_far.sum, one.0) (sym (offset_more ls cs d (omega (arith, four))))) in
+        let one_more : 32 * d + 32 ≡ 32 * (d + 1) = omega arith in
+        record {
+          long = length-set list (d + 1) c ∙ so_far.long;
+          sum = sum;
+          small = subst (λ n. Small n next) one_more next_small;
+          known = below_more (λ k. point_of (get_or (set list (d + 1) c) k no_corner) ≡ signed flip (offset_after ls 1 cs k)) (d + 1)
+              (λ k l. let ne : k ≢ d + 1 = omega arith in rw get_or-set_other (so_far.known k l))
+              (let lt : d + 1 < length list = omega (arith, so_far.long) in rw get_or-set_same (f ∙ ap (signed flip) sum));
+        }
+
+  pub starting_end : {flip : Bool} {at : AB} {list : List Corner} {d : ℕ} → Starting flip at list d → 3 ≤ d → map point_of list ≡ starts ls m flip
+  unfolding starts offset
+  starting_end {flip} {at} {list} {d} so_far h =
+      let at_place = so_far.known in
+      ap (map point_of) (list_of_four list no_corner so_far.long)
+      ∙ (λ i. at_place 0 (omega arith) i ∷ at_place 1 (omega arith) i ∷ at_place 2 (omega arith) i ∷ at_place 3 (omega arith) i ∷ [])
+      ∙ ap (λ l. signed flip (offset_after ls 1 l 0) ∷ signed flip (offset_after ls 1 l 1) ∷ signed flip (offset_after ls 1 l 2) ∷ signed flip (offset_after ls 1 l 3) ∷ []) of.are
 
   pub family_is : (flip : Bool) (at : List Corner) → map point_of at ≡ starts ls m flip → (g0 g1 g2 g3 : Placed)
       → placed_corners g0 ≡ placed_hull ls (get_or cs 0 no_child) (point_of (get_or at 0 no_corner)) flip

@@ -1,10 +1,10 @@
 -- A token's cells, one after the other, in the form of what the code has in hand.
 use mathlib.Core.Path.{◌≡◌, refl, sym, ap, ◌∙◌, subst}
 use mathlib.Core.Bool.{Bool, true, false, cond}
+use mathlib.Core.Logic.{◌⊎◌, inl, inr}
 use mathlib.Core.List.{List, [], ◌∷◌, ◌++◌, map, append_assoc, append-nil, map-append}
-use Prim.Native.Nat.{ℕ, suc, ◌+◌, ◌-◌, ◌*◌, ◌<◌, ◌≤◌}
+use Prim.Native.Nat.{ℕ, suc, ◌+◌, ◌*◌, ◌<◌, ◌≤◌}
 use native.Mathlib.Numerals.{add-one}
-use native.Mathlib.Nat.{sub-zero}
 use native.Mathlib.Omega.{arith}
 use lib.Dec.{eqb}
 use lib.IntN.{ℤ, pos, negsuc}
@@ -13,16 +13,15 @@ use lib.Seq.{take-suc, take-suc-set, take_all}
 use mir.Syntax.{w8, w32, w64}
 use mir.Val.{SFits, to_z, of_z}
 use mir.ValLaws.{to_z-of_z}
+use Rattle.std.specs.Prelude.{Option, Some, None, Result, Ok, Err}
 use Rattle.whole.proofs.View.{v_bits, v_unsigned, v_upto, eq_by, fits, kept}
 use Rattle.turtle.specs.declared.AB.{AB}
 use Rattle.turtle.specs.declared.letter.Stroke.{Stroke}
-use Rattle.turtle.specs.declared.letter.Flavor.{Flavor}
-use Rattle.turtle.specs.declared.letter.Letter.{Letter}
 use Rattle.turtle.specs.declared.walk.Turtle.{Turtle}
 use Rattle.turtle.specs.declared.walk.DrawnCell.{DrawnCell}
 use Rattle.turtle.specs.declared.walk.Corners.{Corners}
 use Rattle.turtle.specs.declared.walk.Stepped.{Stepped}
-use Rattle.turtle.specs.declared.walk.Hosted.{Hosted}
+use Rattle.turtle.specs.declared.walk.Unhosted.{Unhosted}
 use Rattle.turtle.specs.Plane.{ab, origin, facing}
 use Rattle.turtle.specs.Inside.Sizes.{Within, Small}
 use Rattle.turtle.specs.Letters.{stroke_of}
@@ -41,14 +40,15 @@ use Rattle.grammar.proofs.GrammarLaws.{letters_append, length_cells}
 use Rattle.grammar.proofs.Meaning.{accepted, linked}
 use Rattle.grammar.proofs.NetLaws.{one_symbol, step_near, corners_near}
 use Rattle.tables.specs.declared.Drawn.{Drawn}
+use Rattle.tables.specs.declared.DrawnLeaf.{DrawnLeaf}
 use Rattle.tables.specs.declared.Source.{Source}
 use Rattle.tables.specs.declared.leaves.CellWalk.{CellWalk}
 use Rattle.tables.specs.Classifier.{footprint}
-use Rattle.tables.specs.Table.{flavor_number}
+use Rattle.tables.specs.Table.{flavor_number, leaf_of}
 use Rattle.tables.specs.Inside.Sources.{Ready}
 use Rattle.tables.proofs.Follow.{drawing_length}
 use Rattle.tables.proofs.RuleChildLaws.{length_letters, letter_is}
-use Rattle.tables.specs.Inside.Leaves.{CellsFit, corners_in, sums_in, flavors_in, Hosts, CellAdded, CellsOnward, IsDrawn}
+use Rattle.tables.specs.Inside.Leaves.{corners_in, leaf_in, leaves_in, Hosts, CellAdded, CellsOnward, IsDrawn}
 
 -- ---- a pair that fits i8
 module _ {p : AB} (s : Small 120 p) where
@@ -65,34 +65,29 @@ module _ {p : AB} (s : Small 120 p) where
       rw (ea, eb) refl
 
 -- ---- a flavor's number
-pub flavor_of : {f : ℕ} {flavor : Flavor} → f < 256 → flavor ≡ Flavor.Of f → to_z w32 f ≡ flavor_number flavor
+pub flavor_of : {f : ℕ} {flavor : Option ℕ} → f < 256 → flavor ≡ Some f → to_z w32 f ≡ flavor_number flavor
 flavor_of {f} {flavor} h e =
     let v : to_z w32 f ≡ pos f = eq_by (v_unsigned w32 f 256 (omega arith)) (v_upto f 256 (omega arith)) tt (omega arith) in
     v ∙ rw e refl
 
-pub flavor_none : {flavor : Flavor} → flavor ≡ Flavor.None → negsuc 0 ≡ flavor_number flavor
+pub flavor_none : {flavor : Option ℕ} → flavor ≡ None → negsuc 0 ≡ flavor_number flavor
 flavor_none e = rw e refl
 
--- ---- at the origin, with nothing drawn
-abbrev zero_corner : Corner
-zero_corner = record { a = pos 0; b = pos 0 }
-
-abbrev zeros : Turtle → CellWalk
-zeros t =
-    let four : List Corner = zero_corner ∷ zero_corner ∷ zero_corner ∷ zero_corner ∷ [] in
-    record { turtle = t; corners = four ++ four ++ four; sums = four; flavors = pos 0 ∷ pos 0 ∷ pos 0 ∷ pos 0 ∷ []; count = 0 }
-
-facing_small : (f : Bool) → facing f < 6
+-- ---- at the origin
+pub facing_small : (f : Bool) {h : ℕ} → h ≡ facing f → h < 6
 unfolding facing
-facing_small true = omega arith
-facing_small false = omega arith
+facing_small true e = omega arith
+facing_small false e = omega arith
 
-pub starts : (f : Bool) {p : AB} {h : ℕ} → p ≡ ab (pos 0) (pos 0) → h ≡ facing f → CellsFit (zeros (turtle p h)) × (◌≡◌ {A = ℕ} 0 0 × (turtle p h ≡ turtle origin (facing f)))
-unfolding origin
-starts f e g = rw (e, g) (record { corners = refl; sums = refl; flavors = refl; small = record { a = none; b = none; sum = none }; faces = facing_small f }, (refl, refl))
+pub origin_small : {p : AB} → p ≡ ab (pos 0) (pos 0) → Small 0 p
+origin_small e = rw e record { a = none; b = none; sum = none }
   where
     none : Within 0 (pos 0)
     none = record { low = record { le = tt }; high = record { le = tt } }
+
+pub started_is : (f : Bool) {p : AB} {h : ℕ} → p ≡ ab (pos 0) (pos 0) → h ≡ facing f → turtle p h ≡ turtle origin (facing f)
+unfolding origin
+started_is f e g = rw (e, g) refl
 
 -- ---- one cell more
 map_snoc : {A B : Type 0} (f : A → B) (l : List A) (a : A) → map f (l ++ (a ∷ [])) ≡ map f l ++ (f a ∷ [])
@@ -113,40 +108,34 @@ three_more l n p q r h =
     ap (λ i. take i (set l2 (3 * n + 2) r)) k ∙ third ∙ ap (λ t. t ++ (r ∷ [])) (ap (λ i. take i l2) k2 ∙ second ∙ ap (λ t. t ++ (q ∷ [])) (ap (λ i. take i l1) k1 ∙ first))
     ∙ append_assoc (take (3 * n) l ++ (p ∷ [])) (q ∷ []) (r ∷ []) ∙ append_assoc (take (3 * n) l) (p ∷ []) (q ∷ r ∷ [])
 
-module _ (k : CellWalk) (c : Corners) (d : DrawnCell) (t : Turtle) (fit : CellsFit k) (room : k.count < 4) where
+module _ (k n : CellWalk) (c : Corners) (d : DrawnCell) (t : Turtle) (room : k.count < 4) where
   pub added : {p q r s : Corner} {f z : ℤ} → point_of p ≡ c.p → point_of q ≡ c.q → point_of r ≡ c.r → point_of s ≡ d.sum → f ≡ flavor_number d.flavor → SFits w32 f →
       z ≡ to_z w32 (of_z w32 f) →
-      CellAdded k c d t (record {
-        turtle = t;
-        corners = set (set (set k.corners (3 * k.count) p) (3 * k.count + 1) q) (3 * k.count + 2) r;
-        sums = set k.sums k.count s;
-        flavors = set k.flavors k.count z;
-        count = k.count + 1;
-      })
-  added {p} {q} {r} {s} {f} {z} ep eq er es ef fits ez = record {
-    corners_room = length-set (set (set k.corners (3 * k.count) p) (3 * k.count + 1) q) (3 * k.count + 2) r ∙ length-set (set k.corners (3 * k.count) p) (3 * k.count + 1) q ∙ length-set k.corners (3 * k.count) p;
-    sums_room = length-set k.sums k.count s;
-    flavors_room = length-set k.flavors k.count z;
-    turtle = refl;
-    count = refl;
-    corners = ap (map point_of) (three_more k.corners k.count p q r (omega (arith, fit.corners))) ∙ map-append point_of (take (3 * k.count) k.corners) (p ∷ q ∷ r ∷ []) ∙ rw (ep, eq, er) refl;
-    sums = rw (add-one, take-suc-set k.sums k.count s (omega (arith, fit.sums)), ← es) (map_snoc point_of (take k.count k.sums) s);
-    flavors = rw (add-one, take-suc-set k.flavors k.count z (omega (arith, fit.flavors))) (ap (λ v. take k.count k.flavors ++ (v ∷ [])) (ez ∙ to_z-of_z w32 f fits ∙ ef));
-  }
+      n.corners ≡ set (set (set k.corners (3 * k.count) p) (3 * k.count + 1) q) (3 * k.count + 2) r → n.leaves ≡ set k.leaves k.count (record { sum = s; flavor = z }) →
+      n.turtle ≡ t → n.count ≡ k.count + 1 → CellAdded k c d t n
+  added {p} {q} {r} {s} {f} {z} ep eq er es ef fits ez ec el et en =
+      let l : DrawnLeaf = record { sum = s; flavor = z } in
+      let same : leaf_in l ≡ leaf_of d = λ i. record { sum = es i; flavor = (ez ∙ to_z-of_z w32 f fits ∙ ef) i } in
+      record {
+        turtle = et;
+        count = en;
+        corners = rw (en, ec) (ap (map point_of) (three_more k.corners k.count p q r (omega (arith, k.corners_room))) ∙ map-append point_of (take (3 * k.count) k.corners) (p ∷ q ∷ r ∷ []) ∙ rw (ep, eq, er) refl);
+        leaves = rw (en, el, add-one, take-suc-set k.leaves k.count l (omega (arith, k.leaves_room))) (map_snoc leaf_in (take k.count k.leaves) l ∙ ap (λ v. leaves_in k ++ (v ∷ [])) same);
+      }
 
 -- ---- a step near the origin
-near : (k : CellWalk) → CellsFit k → k.count ≤ 4 → Small 65536 k.turtle.at × (k.turtle.heading < 6)
-near k fit few = (small_more (omega arith) fit.small, fit.faces)
+near : (k : CellWalk) → k.count ≤ 4 → Small 65536 k.turtle.at × (k.turtle.heading < 6)
+near k few = (small_more (omega arith) k.small, k.faces)
 
-pub symbol_letter : (b : ℕ) (s : Stroke) → symbol_of b ≡ letter s ∷ [] → Letter.Draws s ≡ stroke_of b
+pub symbol_letter : (b : ℕ) (s : Stroke) → symbol_of b ≡ letter s ∷ [] → Some s ≡ stroke_of b
 unfolding symbol_of
 symbol_letter b s e = go (eqb b 43) (eqb b 45) (stroke_of b) e
   where
-    go : (p q : Bool) (l : Letter) → cond p (left ∷ []) (cond q (right ∷ []) (drawn l)) ≡ letter s ∷ [] → Letter.Draws s ≡ l
+    go : (p q : Bool) (l : Option Stroke) → cond p (left ∷ []) (cond q (right ∷ []) (drawn l)) ≡ letter s ∷ [] → Some s ≡ l
     go true q l e = absurd (let z : ◌≡◌ {A = ℕ} 0 1 = cc in omega arith)
     go false true l e = absurd (let z : ◌≡◌ {A = ℕ} 0 1 = cc in omega arith)
-    go false false (Letter.Draws s') e = cc
-    go false false Letter.NoDraw e = absurd (let z : ◌≡◌ {A = ℕ} 0 1 = cc in omega arith)
+    go false false (Some s') e = cc
+    go false false None e = absurd (let z : ◌≡◌ {A = ℕ} 0 1 = cc in omega arith)
 
 -- the stroke that a step drew
 pub record Struck (b : ℕ) (t : Turtle) (c : DrawnCell) (n : Turtle) : Type 0 where
@@ -162,9 +151,9 @@ struck_by b t c n (right ∷ w) h e f = absurd (let z : ◌≡◌ {A = ℕ} 0 1 
 struck_by b t c n (letter s ∷ []) h e f = record { stroke = s; symbol = e; drawn = cc; moved = cc }
 struck_by b t c n (letter s ∷ a ∷ w) h e f = absurd (omega arith)
 
-module _ (k : CellWalk) (b : ℕ) (fit : CellsFit k) (few : k.count + letter_count (symbol_of b) ≤ 4) {s : Stepped} (step : s ≡ step_of b k.turtle) where
+module _ (k : CellWalk) (b : ℕ) (few : k.count + letter_count (symbol_of b) ≤ 4) {s : Stepped} (step : s ≡ step_of b k.turtle) where
   pub near_here : Small 65536 k.turtle.at × (k.turtle.heading < 6)
-  near_here = near k fit (omega arith)
+  near_here = near k (omega arith)
 
   stepped : s ≡ step_by (symbol_of b) k.turtle
   stepped = step ∙ step_near b k.turtle near_here
@@ -177,9 +166,9 @@ module _ (k : CellWalk) (b : ℕ) (fit : CellsFit k) (few : k.count + letter_cou
     unfolding letter_count
     drew_room = let h : k.count + 1 ≤ 4 = rw struck.symbol at few in omega arith
 
-    abbrev pub drew_hosts : {h : Hosted} → h ≡ corners_of b k.turtle → Hosts k.turtle h c n
+    abbrev pub drew_hosts : {h : Result Corners Unhosted} → h ≡ corners_of b k.turtle → Hosts k.turtle h c n
     drew_hosts e =
-        let l : Letter.Draws struck.stroke ≡ stroke_of b = symbol_letter b struck.stroke struck.symbol in
+        let l : Some struck.stroke ≡ stroke_of b = symbol_letter b struck.stroke struck.symbol in
         record {
           stroke = struck.stroke;
           small = stroke_small b l;
@@ -189,15 +178,15 @@ module _ (k : CellWalk) (b : ℕ) (fit : CellsFit k) (few : k.count + letter_cou
         }
 
 -- ---- the cell of a stroke
-module _ (k : CellWalk) (fit : CellsFit k) (few : k.count < 4) {h : Hosted} {d : DrawnCell} {t : Turtle} (hosts : Hosts k.turtle h d t) where
+module _ (k : CellWalk) (few : k.count < 4) {h : Result Corners Unhosted} {d : DrawnCell} {t : Turtle} (hosts : Hosts k.turtle h d t) where
   abbrev stroke : Stroke
   stroke = hosts.stroke
 
   corner_small : {p : AB} → Small 8 p → Small (8 * k.count + 8) (corner k.turtle p)
   unfolding corner
-  corner_small s = add_small fit.small (rots_small k.turtle.heading s)
+  corner_small s = add_small k.small (rots_small k.turtle.heading s)
 
-  pub hosted_small : {c : Corners} → h ≡ Hosted.Corners c → (Small 40 c.p × (Small 40 c.q × Small 40 c.r)) × Small 120 d.sum
+  pub hosted_small : {c : Corners} → h ≡ Ok c → (Small 40 c.p × (Small 40 c.q × Small 40 c.r)) × Small 120 d.sum
   unfolding corners cell
   hosted_small {c} e =
       let same : c ≡ corners stroke k.turtle = (let f = sym e ∙ hosts.hosted in cc) in
@@ -206,84 +195,63 @@ module _ (k : CellWalk) (fit : CellsFit k) (few : k.count < 4) {h : Hosted} {d :
       let r = corner_small hosts.small.r in
       (rw same (small_more (omega arith) p, (small_more (omega arith) q, small_more (omega arith) r)), subst (λ d. Small 120 d.sum) (sym hosts.drawn) (small_more (omega arith) (add_small (add_small p q) r)))
 
-  pub hosted_same : {c : Corners} → h ≡ Hosted.Corners c → {n : CellWalk} → CellAdded k c d t n → (e : Corners) → h ≡ Hosted.Corners e → CellAdded k e d t n
+  pub hosted_same : {c : Corners} → h ≡ Ok c → {n : CellWalk} → CellAdded k c d t n → (e : Corners) → h ≡ Ok e → CellAdded k e d t n
   hosted_same {c} f {n} a e g = let same : c ≡ e = (let i = sym f ∙ g in cc) in subst (λ e. CellAdded k e d t n) same a
 
-  pub hosted_none : h ≡ Hosted.NoDraw → ⊥
-  hosted_none e = let f = sym e ∙ hosts.hosted in let z : ◌≡◌ {A = ℕ} 0 1 = cc in omega arith
+  pub hosted_none : {u : Unhosted} → h ≡ Err u → ⊥
+  hosted_none {u} e = let f = sym e ∙ hosts.hosted in let z : ◌≡◌ {A = ℕ} 0 1 = cc in omega arith
 
-  pub hosted_lost : h ≡ Hosted.Lost → ⊥
-  hosted_lost e = let f = sym e ∙ hosts.hosted in let z : ◌≡◌ {A = ℕ} 0 1 = cc in omega arith
-
-  pub hosted_onward : {n : CellWalk} → ((c : Corners) → h ≡ Hosted.Corners c → CellAdded k c d t n) → CellsOnward k (letter stroke ∷ []) n
+  pub hosted_onward : {n : CellWalk} → ((c : Corners) → h ≡ Ok c → CellAdded k c d t n) → CellsOnward k (letter stroke ∷ []) n
   unfolding letter_count footprint cells corners cell move final
   hosted_onward {n} added =
       let a = added (corners stroke k.turtle) hosts.hosted in
       record {
-        fit = record {
-          corners = a.corners_room ∙ fit.corners;
-          sums = a.sums_room ∙ fit.sums;
-          flavors = a.flavors_room ∙ fit.flavors;
-          small = rw (a.turtle, hosts.moved, a.count) (small_more (omega arith) (add_small fit.small (rots_small k.turtle.heading hosts.small.step)));
-          faces = rw (a.turtle, hosts.moved) fit.faces;
-        };
         count = a.count;
         corners = a.corners;
-        sums = a.sums ∙ ap (λ d. sums_in k ++ (d.sum ∷ [])) hosts.drawn;
-        flavors = a.flavors ∙ ap (λ d. flavors_in k ++ (flavor_number d.flavor ∷ [])) hosts.drawn;
+        leaves = a.leaves ∙ ap (λ d. leaves_in k ++ (leaf_of d ∷ [])) hosts.drawn;
         turtle = a.turtle ∙ hosts.moved;
       }
 
+  -- the next turtle is as near as one cell more lets it be
+  pub hosted_near : Small (8 * (k.count + 1)) t.at × (t.heading < 6)
+  unfolding move
+  hosted_near = rw hosts.moved (small_more (omega arith) (add_small k.small (rots_small k.turtle.heading hosts.small.step)), k.faces)
+
 -- ---- a turn, and a byte that is passed over
-module _ (k : CellWalk) (fit : CellsFit k) where
-  module _ {n : CellWalk} (t : Turtle) (made : n ≡ record { turtle = t; corners = k.corners; sums = k.sums; flavors = k.flavors; count = k.count }) where
-    turned_fit : t.at ≡ k.turtle.at → t.heading < 6 → CellsFit n
-    turned_fit e h = rw made record { corners = fit.corners; sums = fit.sums; flavors = fit.flavors; small = rw e fit.small; faces = h }
+module _ (k n : CellWalk) (t : Turtle) (et : n.turtle ≡ t) (ec : n.corners ≡ k.corners) (el : n.leaves ≡ k.leaves) (en : n.count ≡ k.count) where
+  left_onward : t ≡ move left k.turtle → CellsOnward k (left ∷ []) n
+  unfolding letter_count footprint cells move final
+  left_onward e = record { count = omega (arith, en); corners = rw (en, ec) (sym (append-nil _)); leaves = rw (en, el) (sym (append-nil _)); turtle = et ∙ e }
 
-    pub left_onward : t ≡ move left k.turtle → CellsOnward k (left ∷ []) n
-    unfolding letter_count footprint cells move final
-    left_onward e =
-        rw made
-        record {
-          fit = rw (sym made) (turned_fit (ap (λ t. t.at) e) (rw e (omega arith)));
-          count = omega arith;
-          corners = sym (append-nil _);
-          sums = sym (append-nil _);
-          flavors = sym (append-nil _);
-          turtle = e;
-        }
+  right_onward : t ≡ move right k.turtle → CellsOnward k (right ∷ []) n
+  unfolding letter_count footprint cells move final
+  right_onward e = record { count = omega (arith, en); corners = rw (en, ec) (sym (append-nil _)); leaves = rw (en, el) (sym (append-nil _)); turtle = et ∙ e }
 
-    pub right_onward : t ≡ move right k.turtle → CellsOnward k (right ∷ []) n
-    unfolding letter_count footprint cells move final
-    right_onward e =
-        rw made
-        record {
-          fit = rw (sym made) (turned_fit (ap (λ t. t.at) e) (rw e (omega arith)));
-          count = omega arith;
-          corners = sym (append-nil _);
-          sums = sym (append-nil _);
-          flavors = sym (append-nil _);
-          turtle = e;
-        }
+  turn_by : (w : List (Sym Stroke)) → length w ≤ 1 → Stepped.Turned t ≡ step_by w k.turtle → CellsOnward k w n
+  turn_by [] h e = absurd (let z : ◌≡◌ {A = ℕ} 0 1 = cc in omega arith)
+  turn_by (left ∷ []) h e = left_onward cc
+  turn_by (right ∷ []) h e = right_onward cc
+  turn_by (letter s ∷ w) h e = absurd (let z : ◌≡◌ {A = ℕ} 0 1 = cc in omega arith)
+  turn_by (left ∷ a ∷ w) h e = absurd (omega arith)
+  turn_by (right ∷ a ∷ w) h e = absurd (omega arith)
 
-  pub none_onward : CellsOnward k [] k
-  unfolding letter_count footprint cells final
-  none_onward = record { fit = fit; count = omega arith; corners = sym (append-nil _); sums = sym (append-nil _); flavors = sym (append-nil _); turtle = refl }
+-- a turn goes nowhere
+turn_near : (k : CellWalk) (t : Turtle) (w : List (Sym Stroke)) → Stepped.Turned t ≡ step_by w k.turtle → Small (8 * k.count) t.at × (t.heading < 6)
+unfolding move
+turn_near k t [] e = absurd (let z : ◌≡◌ {A = ℕ} 0 1 = cc in omega arith)
+turn_near k t (left ∷ w) e = let f : t ≡ move left k.turtle = cc in rw f (k.small, omega arith)
+turn_near k t (right ∷ w) e = let f : t ≡ move right k.turtle = cc in rw f (k.small, omega arith)
+turn_near k t (letter s ∷ w) e = absurd (let z : ◌≡◌ {A = ℕ} 0 1 = cc in omega arith)
 
-turn_by : (k : CellWalk) (fit : CellsFit k) (t : Turtle) (w : List (Sym Stroke)) → length w ≤ 1 → Stepped.Turned t ≡ step_by w k.turtle
-    → {n : CellWalk} → n ≡ record { turtle = t; corners = k.corners; sums = k.sums; flavors = k.flavors; count = k.count } → CellsOnward k w n
-turn_by k fit t [] h e made = absurd (let z : ◌≡◌ {A = ℕ} 0 1 = cc in omega arith)
-turn_by k fit t (left ∷ []) h e made = left_onward k fit t made cc
-turn_by k fit t (right ∷ []) h e made = right_onward k fit t made cc
-turn_by k fit t (letter s ∷ w) h e made = absurd (let z : ◌≡◌ {A = ℕ} 0 1 = cc in omega arith)
-turn_by k fit t (left ∷ a ∷ w) h e made = absurd (omega arith)
-turn_by k fit t (right ∷ a ∷ w) h e made = absurd (omega arith)
+none_onward : (k : CellWalk) → CellsOnward k [] k
+unfolding letter_count footprint cells final
+none_onward k = record { count = omega arith; corners = sym (append-nil _); leaves = sym (append-nil _); turtle = refl }
 
-none_by : (k : CellWalk) (fit : CellsFit k) (w : List (Sym Stroke)) → Stepped.NoDraw ≡ step_by w k.turtle → CellsOnward k w k
-none_by k fit [] e = none_onward k fit
-none_by k fit (left ∷ w) e = absurd (let z : ◌≡◌ {A = ℕ} 0 1 = cc in omega arith)
-none_by k fit (right ∷ w) e = absurd (let z : ◌≡◌ {A = ℕ} 0 1 = cc in omega arith)
-none_by k fit (letter s ∷ w) e = absurd (let z : ◌≡◌ {A = ℕ} 0 1 = cc in omega arith)
+none_by : (k : CellWalk) (w : List (Sym Stroke)) → Stepped.NoDraw ≡ step_by w k.turtle → CellsOnward k w k
+none_by k [] e = none_onward k
+none_by k (left ∷ w) e = absurd (let z : ◌≡◌ {A = ℕ} 0 1 = cc in omega arith)
+none_by k (right ∷ w) e = absurd (let z : ◌≡◌ {A = ℕ} 0 1 = cc in omega arith)
+none_by k (letter s ∷ w) e = absurd (let z : ◌≡◌ {A = ℕ} 0 1 = cc in omega arith)
 
 lost_by : (t : Turtle) (w : List (Sym Stroke)) → Stepped.Lost ≡ step_by w t → ⊥
 lost_by t [] e = let z : ◌≡◌ {A = ℕ} 0 1 = cc in omega arith
@@ -292,20 +260,24 @@ lost_by t (right ∷ w) e = let z : ◌≡◌ {A = ℕ} 0 1 = cc in omega arith
 lost_by t (letter s ∷ w) e = let z : ◌≡◌ {A = ℕ} 0 1 = cc in omega arith
 
 -- ---- the cases of a byte
-module _ (k : CellWalk) (b : ℕ) (fit : CellsFit k) (few : k.count + letter_count (symbol_of b) ≤ 4) {s : Stepped} (step : s ≡ step_of b k.turtle) where
-  pub byte_drew : {c : DrawnCell} {n : Turtle} → s ≡ Stepped.Drew c n → {h : Hosted} → h ≡ corners_of b k.turtle → {m : CellWalk} → ((cs : Corners) → h ≡ Hosted.Corners cs → CellAdded k cs c n m) → CellsOnward k (symbol_of b) m
+module _ (k : CellWalk) (b : ℕ) (few : k.count + letter_count (symbol_of b) ≤ 4) {s : Stepped} (step : s ≡ step_of b k.turtle) where
+  pub byte_drew : {c : DrawnCell} {n : Turtle} → s ≡ Stepped.Drew c n → {h : Result Corners Unhosted} → h ≡ corners_of b k.turtle → {m : CellWalk} → ((cs : Corners) → h ≡ Ok cs → CellAdded k cs c n m) → CellsOnward k (symbol_of b) m
   byte_drew e f added =
-      let hosts = drew_hosts k b fit few step e f in
-      rw (struck k b fit few step e).symbol (hosted_onward k fit (drew_room k b fit few step e) hosts added)
+      let hosts = drew_hosts k b few step e f in
+      rw (struck k b few step e).symbol (hosted_onward k (drew_room k b few step e) hosts added)
 
-  pub byte_turned : {t : Turtle} → s ≡ Stepped.Turned t → {n : CellWalk} → n ≡ record { turtle = t; corners = k.corners; sums = k.sums; flavors = k.flavors; count = k.count } → CellsOnward k (symbol_of b) n
-  byte_turned {t} e made = turn_by k fit t (symbol_of b) (one_symbol b) (sym e ∙ stepped k b fit few step) made
+  module _ {t : Turtle} (turned : s ≡ Stepped.Turned t) where
+    pub byte_near : Small (8 * k.count) t.at × (t.heading < 6)
+    byte_near = turn_near k t (symbol_of b) (sym turned ∙ stepped k b few step)
 
-  pub byte_none : s ≡ Stepped.NoDraw → CellsOnward k (symbol_of b) k
-  byte_none e = none_by k fit (symbol_of b) (sym e ∙ stepped k b fit few step)
+    pub byte_turned : {n : CellWalk} → n.turtle ≡ t → n.corners ≡ k.corners → n.leaves ≡ k.leaves → n.count ≡ k.count → CellsOnward k (symbol_of b) n
+    byte_turned {n} et ec el en = turn_by k n t et ec el en (symbol_of b) (one_symbol b) (sym turned ∙ stepped k b few step)
 
-  pub byte_lost : s ≡ Stepped.Lost → ⊥
-  byte_lost e = lost_by k.turtle (symbol_of b) (sym e ∙ stepped k b fit few step)
+  pub byte_passed : (s ≡ Stepped.NoDraw) ⊎ (s ≡ Stepped.Lost) → CellsOnward k (symbol_of b) k
+  byte_passed = elim [
+    | inl e ↦ none_by k (symbol_of b) (sym e ∙ stepped k b few step)
+    | inr e ↦ absurd (lost_by k.turtle (symbol_of b) (sym e ∙ stepped k b few step))
+  ]
 
 -- ---- along a word
 footprint_append : (u v : List (Sym Stroke)) (t : Turtle) → footprint (u ++ v) t ≡ footprint u t ++ footprint v (final u t)
@@ -317,18 +289,16 @@ footprint_append (letter s ∷ u) v t = ap (λ l. corner t s.p ∷ corner t s.q 
 
 -- from t on along u
 pub record Walked (u : List (Sym Stroke)) (t : Turtle) (k : CellWalk) : Type 0 where
-  pub fit : CellsFit k
   pub count : k.count ≡ letter_count u
   pub corners : corners_in k ≡ footprint u t
-  pub sums : sums_in k ≡ map (λ c. c.sum) (cells u t)
-  pub flavors : flavors_in k ≡ map (λ c. flavor_number c.flavor) (cells u t)
+  pub leaves : leaves_in k ≡ map leaf_of (cells u t)
   pub turtle : k.turtle ≡ final u t
 
-pub walked_start : (w : List ℕ) (t : Turtle) {k : CellWalk} → CellsFit k × ((k.count ≡ 0) × (k.turtle ≡ t)) → Walked (symbols_of (take 0 w)) t k
+pub walked_start : (w : List ℕ) (t : Turtle) {k : CellWalk} → (k.count ≡ 0) × (k.turtle ≡ t) → Walked (symbols_of (take 0 w)) t k
 unfolding symbols_of letter_count footprint cells final
 walked_start w t {k} e =
-    let none : 3 * k.count ≡ 0 = omega (arith, e.1.0) in
-    record { fit = e.0; count = e.1.0; corners = rw none refl; sums = rw e.1.0 refl; flavors = rw e.1.0 refl; turtle = e.1.1 }
+    let none : 3 * k.count ≡ 0 = omega (arith, e.0) in
+    record { count = e.0; corners = rw none refl; leaves = rw e.0 refl; turtle = e.1 }
 
 module _ (w : List ℕ) (t : Turtle) {k : CellWalk} {i : ℕ} (so_far : Walked (symbols_of (take i w)) t k) (h : i < length w) where
   abbrev past : List (Sym Stroke)
@@ -355,11 +325,9 @@ module _ (w : List ℕ) (t : Turtle) {k : CellWalk} {i : ℕ} (so_far : Walked (
       let all : past ++ here ≡ symbols_of (take (i + 1) w) = rw add-one (sym next_is) in
       subst (λ u. Walked u t n) all
       record {
-        fit = o.fit;
         count = o.count ∙ rw so_far.count (sym (letters_append past here));
         corners = o.corners ∙ rw (so_far.corners, so_far.turtle) (sym (footprint_append past here t));
-        sums = o.sums ∙ rw (so_far.sums, so_far.turtle) (sym (cells_more (λ c. c.sum)));
-        flavors = o.flavors ∙ rw (so_far.flavors, so_far.turtle) (sym (cells_more (λ c. flavor_number c.flavor)));
+        leaves = o.leaves ∙ rw (so_far.leaves, so_far.turtle) (sym (cells_more leaf_of));
         turtle = o.turtle ∙ rw so_far.turtle (sym (final_append past here t));
       }
 
@@ -367,20 +335,18 @@ module _ (w : List ℕ) (t : Turtle) {k : CellWalk} {i : ℕ} (so_far : Walked (
   all : take i w ≡ w
   all = take_all i w h
 
-  pub walked_four : CellsFit k × (k.count ≡ 4)
-  walked_four = (so_far.fit, so_far.count ∙ rw all four)
+  pub walked_four : k.count ≡ 4
+  walked_four = so_far.count ∙ rw all four
 
-  pub walked_end : {d : Drawn} → (d.corners ≡ k.corners) × ((d.sums ≡ k.sums) × ((d.flavors ≡ k.flavors) × (point_of d.end ≡ k.turtle.at))) → IsDrawn (symbols_of w) t d
+  pub walked_end : {d : Drawn} → (d.corners ≡ k.corners) × ((d.leaves ≡ k.leaves) × (point_of d.end ≡ k.turtle.at)) → IsDrawn (symbols_of w) t d
   walked_end {d} e =
-      let c : k.count ≡ 4 = walked_four.1 in
-      let fit = so_far.fit in
-      let near : Small 32 k.turtle.at = small_more (omega arith) fit.small in
+      let c : k.count ≡ 4 = walked_four in
+      let near : Small 32 k.turtle.at = small_more (omega arith) k.small in
       record {
-        corners = rw e.0 (ap (map point_of) (sym (take_all (3 * k.count) k.corners (omega (arith, fit.corners)))) ∙ so_far.corners ∙ rw all refl);
-        sums = rw e.1.0 (ap (map point_of) (sym (take_all k.count k.sums (omega (arith, fit.sums)))) ∙ so_far.sums ∙ rw all refl);
-        flavors = e.1.1.0 ∙ (sym (take_all k.count k.flavors (omega (arith, fit.flavors))) ∙ so_far.flavors ∙ rw all refl);
-        end = e.1.1.1 ∙ ap (λ t. t.at) so_far.turtle ∙ rw all refl;
-        near = subst (Small 32) (sym e.1.1.1) near;
+        corners = rw e.0 (ap (map point_of) (sym (take_all (3 * k.count) k.corners (omega (arith, k.corners_room)))) ∙ so_far.corners ∙ rw all refl);
+        leaves = rw e.1.0 (ap (map leaf_in) (sym (take_all k.count k.leaves (omega (arith, k.leaves_room)))) ∙ so_far.leaves ∙ rw all refl);
+        end = e.1.1 ∙ ap (λ t. t.at) so_far.turtle ∙ rw all refl;
+        near = subst (Small 32) (sym e.1.1) near;
       }
 
 -- ---- a token's strokes
@@ -392,11 +358,11 @@ four_strokes {text} r m h =
 
 module _ {text : List ℕ} {s : Source} (r : Ready text s) (m : ℕ) (h : m < s.count) (n : ℕ) (last : List ℕ)
     (e : symbols_of (take n last) ≡ strokes (lines_by text s.lines) 1 (get_or s.bytes m 0)) where
-  strokes_of : symbols_of (take (n - 0) last) ≡ strokes (lines_of text) 1 (letter_of (lines_of text) m)
-  strokes_of = rw sub-zero (e ∙ rw (r.lines, letter_is r m h) refl)
+  strokes_of : symbols_of (take n last) ≡ strokes (lines_of text) 1 (letter_of (lines_of text) m)
+  strokes_of = e ∙ rw (r.lines, letter_is r m h) refl
 
-  pub strokes_four : letter_count (symbols_of (take (n - 0) last)) ≡ 4
+  pub strokes_four : letter_count (symbols_of (take n last)) ≡ 4
   strokes_four = ap letter_count strokes_of ∙ four_strokes r m h
 
-  pub strokes_drawn : {t : Turtle} {d : Drawn} → IsDrawn (symbols_of (take (n - 0) last)) t d → IsDrawn (strokes (lines_of text) 1 (letter_of (lines_of text) m)) t d
+  pub strokes_drawn : {t : Turtle} {d : Drawn} → IsDrawn (symbols_of (take n last)) t d → IsDrawn (strokes (lines_of text) 1 (letter_of (lines_of text) m)) t d
   strokes_drawn {t} {d} i = subst (λ w. IsDrawn w t d) strokes_of i

@@ -2,12 +2,11 @@
 use mathlib.Core.Path.{◌≡◌, refl, sym, ap, ◌∙◌}
 use mathlib.Core.Bool.{Bool, true, false, cond}
 use mathlib.Core.List.{List, [], ◌∷◌, ◌++◌, append_assoc, append-nil}
-use Prim.Native.Nat.{ℕ, suc, ◌+◌, ◌-◌, ◌%◌, ◌<◌, ◌≤◌, min}
+use Prim.Native.Nat.{ℕ, suc, ◌+◌, ◌%◌, ◌<◌, ◌≤◌, min}
 use native.Mathlib.Numerals.{add-one}
-use native.Mathlib.Nat.{sub-zero}
 use native.Mathlib.Omega.{arith}
 use lib.Dec.{eqb}
-use lib.ListN.{length, get_or, take, drop, set, length-set, take-append-drop}
+use lib.ListN.{length, get_or, take, drop, set, take-append-drop}
 use lib.Seq.{take-suc, take-suc-set, take_all, get_or-take, length-take-le}
 use borrow.Author.Tests.{ne_eqb}
 use Rattle.turtle.specs.Walk.{Sym, left, right, letter}
@@ -27,7 +26,7 @@ use Rattle.tables.specs.declared.Source.{Source}
 use Rattle.tables.specs.declared.children.RuleChildren.{RuleChildren}
 use Rattle.tables.specs.Children.{children_along, children}
 use Rattle.tables.specs.Inside.Sources.{letters_in, Ready}
-use Rattle.tables.specs.Inside.RuleChildren.{rule_symbol_by, rule_symbols_by, OpenChildren, ChildrenOnward}
+use Rattle.tables.specs.Inside.RuleChildren.{rule_symbol_by, rule_symbols_by, ChildrenOnward}
 
 along_append : (h : ℕ) (u v : List (Sym ℕ)) → children_along h (u ++ v) ≡ children_along h u ++ children_along (turned h u) v
 unfolding children_along turned
@@ -37,35 +36,27 @@ along_append h (right ∷ u) v = along_append ((h + 5) % 6) u v
 along_append h (letter a ∷ u) v = ap (λ l. record { token = a; flip = eqb h 3 } ∷ l) (along_append h u v)
 
 -- ---- one symbol more
-module _ {m : RuleChildren} (ready : OpenChildren m) where
+module _ (m n : RuleChildren) where
   pub one_child : (token : ℕ) → m.count < 4 →
       let c : Child = record { token = token; flip = eqb m.heading 3 } in
-      ChildrenOnward m (letter token ∷ []) (record { children = set m.children m.count c; count = m.count + 1; heading = m.heading })
+      n.children ≡ set m.children m.count c → n.count ≡ m.count + 1 → n.heading ≡ m.heading → ChildrenOnward m (letter token ∷ []) n
   unfolding children_along turned letter_count
-  one_child token h =
+  one_child token h e k t =
       let c : Child = record { token = token; flip = eqb m.heading 3 } in
-      record {
-        ready = record { room = length-set m.children m.count c ∙ ready.room; faces = ready.faces };
-        count = refl;
-        children = rw add-one (take-suc-set m.children m.count c (omega (arith, ready.room)));
-        heading = refl;
-      }
+      record { count = k; children = rw (e, k, add-one) (take-suc-set m.children m.count c (omega (arith, m.room))); heading = t }
 
-  module _ {n : RuleChildren} (turn : ℕ) (e : (n.children ≡ m.children) × ((n.count ≡ m.count) × (n.heading ≡ (m.heading + turn) % 6))) where
-    turned_open : OpenChildren n
-    turned_open = record { room = rw e.0 ready.room; faces = omega (arith, e.1.1) }
-
+  module _ (turn : ℕ) (e : (n.children ≡ m.children) × ((n.count ≡ m.count) × (n.heading ≡ (m.heading + turn) % 6))) where
     pub one_left : turn ≡ 1 → ChildrenOnward m (left ∷ []) n
     unfolding children_along turned letter_count
-    one_left t = record { ready = turned_open; count = omega (arith, e.1.0); children = rw (e.0, e.1.0) (sym (append-nil _)); heading = e.1.1 ∙ rw t refl }
+    one_left t = record { count = omega (arith, e.1.0); children = rw (e.0, e.1.0) (sym (append-nil _)); heading = e.1.1 ∙ rw t refl }
 
     pub one_right : turn ≡ 5 → ChildrenOnward m (right ∷ []) n
     unfolding children_along turned letter_count
-    one_right t = record { ready = turned_open; count = omega (arith, e.1.0); children = rw (e.0, e.1.0) (sym (append-nil _)); heading = e.1.1 ∙ rw t refl }
+    one_right t = record { count = omega (arith, e.1.0); children = rw (e.0, e.1.0) (sym (append-nil _)); heading = e.1.1 ∙ rw t refl }
 
-  pub none_met : ChildrenOnward m [] m
-  unfolding children_along turned letter_count
-  none_met = record { ready = ready; count = omega arith; children = sym (append-nil _); heading = refl }
+pub none_met : (m : RuleChildren) → ChildrenOnward m [] m
+unfolding children_along turned letter_count
+none_met m = record { count = omega arith; children = sym (append-nil _); heading = refl }
 
 -- ---- one byte more
 module _ (s : Source) (b : ℕ) (m n : RuleChildren) where
@@ -101,14 +92,13 @@ by_append s (b ∷ v) w = rw (by_append s v w) (sym (append_assoc (rule_symbol_b
 
 -- along the first i bytes
 pub record Along (s : Source) (w : List ℕ) (m : RuleChildren) (i : ℕ) : Type 0 where
-  pub ready : OpenChildren m
   pub count : m.count ≡ letter_count (rule_symbols_by s (take i w))
   pub children : take m.count m.children ≡ children_along 0 (rule_symbols_by s (take i w))
   pub heading : m.heading ≡ turned 0 (rule_symbols_by s (take i w))
 
-pub along_start : (s : Source) (w : List ℕ) {m : RuleChildren} → OpenChildren m × ((m.count ≡ 0) × (m.heading ≡ 0)) → Along s w m 0
+pub along_start : (s : Source) (w : List ℕ) {m : RuleChildren} → (m.count ≡ 0) × (m.heading ≡ 0) → Along s w m 0
 unfolding rule_symbols_by children_along letter_count turned
-along_start s w e = record { ready = e.0; count = e.1.0; children = rw e.1.0 refl; heading = e.1.1 }
+along_start s w e = record { count = e.0; children = rw e.0 refl; heading = e.1 }
 
 module _ (s : Source) (w : List ℕ) {m : RuleChildren} {i : ℕ} (so_far : Along s w m i) (h : i < length w) where
   next_is : rule_symbols_by s (take (suc i) w) ≡ rule_symbols_by s (take i w) ++ rule_symbol_by s (get_or w i 0)
@@ -126,7 +116,6 @@ module _ (s : Source) (w : List ℕ) {m : RuleChildren} {i : ℕ} (so_far : Alon
   along_next {n} o =
       rw add-one
       record {
-        ready = o.ready;
         count = rw next_is (o.count ∙ rw so_far.count (sym (letters_append (rule_symbols_by s (take i w)) _)));
         children = rw next_is (o.children ∙ rw (so_far.children, so_far.heading) (sym (along_append 0 (rule_symbols_by s (take i w)) _)));
         heading = rw next_is (o.heading ∙ rw so_far.heading (sym (turned_append 0 (rule_symbols_by s (take i w)) _)));
@@ -136,7 +125,7 @@ pub along_end : (s : Source) (w : List ℕ) {m : RuleChildren} {i : ℕ} → Alo
 along_end s w {m} {i} a f h =
     let all : take i w ≡ w = take_all i w h in
     let four : m.count ≡ 4 = a.count ∙ rw all f in
-    sym (take_all m.count m.children (omega (arith, a.ready.room))) ∙ a.children ∙ rw all refl
+    sym (take_all m.count m.children (omega (arith, m.room))) ∙ a.children ∙ rw all refl
 
 -- ---- of a text, the source's letters are the lines'
 module _ {text : List ℕ} {s : Source} (r : Ready text s) where
@@ -151,7 +140,7 @@ module _ {text : List ℕ} {s : Source} (r : Ready text s) where
 
   pub length_letters : s.count ≡ length (token_bytes (lines_of text))
   unfolding letters_in
-  length_letters = sym (length-take-le s.count s.bytes (omega (arith, r.held.room, r.held.few))) ∙ ap length r.tokens
+  length_letters = sym (length-take-le s.count s.bytes (omega (arith, s.room, s.few))) ∙ ap length r.tokens
 
   module _ (m : ℕ) (h : m < s.count) where
     pub letter_is : get_or s.bytes m 0 ≡ letter_of (lines_of text) m
@@ -159,18 +148,18 @@ module _ {text : List ℕ} {s : Source} (r : Ready text s) where
     letter_is = sym (get_or-take s.count s.bytes m 0 h) ∙ ap (λ l. get_or l m 0) r.tokens
 
     module _ (n : ℕ) (last : List ℕ) (e : take n last ≡ expand_once (rules (lines_by text s.lines)) (get_or s.bytes m 0 ∷ [])) where
-      rule_bytes : take (n - 0) last ≡ word_of (rules (lines_of text)) (letter_of (lines_of text) m)
+      rule_bytes : take n last ≡ word_of (rules (lines_of text)) (letter_of (lines_of text) m)
       unfolding expand_once
-      rule_bytes = rw sub-zero (e ∙ rw (r.lines, letter_is) (append-nil _))
+      rule_bytes = e ∙ rw (r.lines, letter_is) (append-nil _)
 
-      rule_children : rule_symbols_by s (take (n - 0) last) ≡ (grammar_of (lines_of text)).rule m
+      rule_children : rule_symbols_by s (take n last) ≡ (grammar_of (lines_of text)).rule m
       unfolding grammar_of
-      rule_children = all_lines (take (n - 0) last) ∙ ap (rule_symbols (lines_of text)) rule_bytes
+      rule_children = all_lines (take n last) ∙ ap (rule_symbols (lines_of text)) rule_bytes
 
-      pub rule_four : letter_count (rule_symbols_by s (take (n - 0) last)) ≡ 4
+      pub rule_four : letter_count (rule_symbols_by s (take n last)) ≡ 4
       unfolding grammar_of
       rule_four = ap letter_count rule_children ∙ (accepted text fine r.fair).four m (rw (sym length_letters) h)
 
-      pub rule_along : {cs : List Child} → cs ≡ children_along 0 (rule_symbols_by s (take (n - 0) last)) → cs ≡ children (lines_of text) m
+      pub rule_along : {cs : List Child} → cs ≡ children_along 0 (rule_symbols_by s (take n last)) → cs ≡ children (lines_of text) m
       unfolding children grammar_of
       rule_along f = f ∙ ap (children_along 0) rule_children

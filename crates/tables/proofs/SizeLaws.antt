@@ -8,10 +8,10 @@ use native.Mathlib.Omega.{arith}
 use lib.Dec.{T, eqb, ltb→lt, lt→ltb}
 use lib.ListN.{length, get_or}
 use lib.IntN.{ℤ, pos, nat_abs}
+use Rattle.std.specs.Prelude.{Option, Some, None}
 use Rattle.whole.proofs.Parts.{abs_parts, up_dn}
 use Rattle.turtle.specs.declared.AB.{AB}
 use Rattle.turtle.specs.declared.letter.Stroke.{Stroke}
-use Rattle.turtle.specs.declared.letter.Flavor.{Flavor}
 use Rattle.turtle.specs.declared.walk.Turtle.{Turtle}
 use Rattle.turtle.specs.Plane.{origin, rots, signed, facing}
 use Rattle.turtle.specs.Letters.{toggled}
@@ -80,10 +80,10 @@ cell_small (letter a ∷ w) t e s (suc d) =
     small_more (omega arith) (cell_small w (move (letter a) t) e.1 (add_small s (rots_small t.heading e.0.step)) d)
 
 -- ---- flavors along a walk
-turned_flavor_lem : (h : ℕ) (f : Flavor) → T (is_flavor f) → T (is_flavor (turned_flavor h f))
+turned_flavor_lem : (h : ℕ) (f : Option ℕ) → T (is_flavor f) → T (is_flavor (turned_flavor h f))
 unfolding turned_flavor toggled
-turned_flavor_lem h (Flavor.Of f) t = let b = ltb→lt f 4 t in lt→ltb (f / 2 * 2 + (f + h) % 2) 4 (omega arith)
-turned_flavor_lem h Flavor.None t = t
+turned_flavor_lem h (Some f) t = let b = ltb→lt f 4 t in lt→ltb (f / 2 * 2 + (f + h) % 2) 4 (omega arith)
+turned_flavor_lem h None t = t
 
 pub cell_flavored : (w : List (Sym Stroke)) (t : Turtle) → Every Flavored w → (d : ℕ) → d < letter_count w → T (is_flavor (get_or (cells w t) d no_cell).flavor)
 unfolding cells cell letter_count

@@ -2,27 +2,24 @@
 use mathlib.Core.Path.{◌≡◌, refl, sym, ap, ◌∙◌}
 use mathlib.Core.Bool.{Bool, true, false}
 use mathlib.Core.List.{List, [], ◌∷◌, ◌++◌}
-use Prim.Native.Nat.{ℕ, ◌+◌, ◌-◌, ◌*◌, ◌/◌, ◌%◌, ◌^◌, ◌<◌, ◌≤◌}
+use Prim.Native.Nat.{ℕ, ◌+◌, ◌-◌, ◌*◌, ◌/◌, ◌^◌, ◌<◌, ◌≤◌}
 use native.Mathlib.Omega.{arith}
 use lib.IntN.{ℤ, pos}
 use lib.Signed.{mag}
 use lib.ListN.{length, get_or, drop, set, length-set}
-use mir.Syntax.{w8, w32}
-use mir.Val.{SFits, to_z, of_z}
+use mir.Syntax.{w32}
+use mir.Val.{to_z, of_z, bool_byte}
 use mir.ValLaws.{to_z-of_z}
-use borrow.Author.Tests.{lt-ltb, le-ltb, eq-eqb, ne_eqb}
+use borrow.Author.Tests.{lt-ltb, le-ltb}
 use Rattle.whole.proofs.Fill.{poured, poured_more, poured_all}
-use Rattle.whole.proofs.View.{v_unsigned, v_upto, eq_by, kept, fits}
+use Rattle.whole.proofs.View.{v_unsigned, v_upto, eq_by}
 use Rattle.turtle.specs.Plane.{flipped}
-use Rattle.classifier.specs.declared.Corner.{Corner}
-use Rattle.classifier.specs.declared.Separator.{Separator}
 use Rattle.classifier.specs.Shapes.{no_corner, no_separator}
-use Rattle.classifier.proofs.ComparisonLaws.{v_i8}
 use Rattle.tables.specs.declared.Child.{Child}
 use Rattle.tables.specs.declared.StateParts.{StateParts}
 use Rattle.tables.specs.Children.{no_child}
-use Rattle.tables.specs.Table.{state_of}
-use Rattle.tables.specs.Inside.StateNumbers.{state_in, coordinate_at, factor_at, number_of, numbers_of, Tokened}
+use Rattle.tables.specs.Table.{bit, state_of}
+use Rattle.tables.specs.Inside.StateNumbers.{state_in, coordinate_at, factor_at, no_leaf, number_of, numbers_of}
 use Rattle.tables.proofs.Entries.{length_up_to, get_d_up_to}
 
 -- ---- numbers as i32
@@ -32,48 +29,20 @@ natural_is n hi h k = eq_by (v_unsigned w32 n (2 ^ 31 - 1) (omega arith)) (v_upt
 pub read_back : {z : ℤ} {y : ℤ} → mag z < 2 ^ 31 → z ≡ y → to_z w32 (of_z w32 z) ≡ y
 read_back {z} h e = to_z-of_z w32 z (record { sfits = h }) ∙ e
 
-module _ (v : ℤ) (h : mag v < 2 ^ 7) where
-  pub wide_fits : SFits w32 (to_z w8 (of_z w8 v))
-  wide_fits = rw (to_z-of_z w8 v (record { sfits = h })) (fits (v_i8 v h) tt)
-
-  pub wide_back : {z : ℤ} → mag z < 2 ^ 31 → z ≡ to_z w8 (of_z w8 v) → to_z w32 (of_z w32 z) ≡ v
-  wide_back k e = read_back k (e ∙ to_z-of_z w8 v (record { sfits = h }))
-
-  pub wide_is : to_z w32 (of_z w32 (to_z w8 (of_z w8 v))) ≡ v
-  wide_is = kept w32 (kept w8 refl (v_i8 v h) tt) (v_i8 v h) tt
-
 -- ---- a child's state
-module _ (c : Child) (f : Bool) {t : Bool} (e : t ≡ flipped f c.flip) (h : c.token < 52) where
-  pub state_on : t ≡ true → to_z w32 (2 * c.token + 1) ≡ state_in f c
-  unfolding state_of
-  state_on y = natural_is (2 * c.token + 1) 103 (omega arith) (omega arith) ∙ rw (sym e ∙ y) refl
+byte_bit : (t : Bool) → bool_byte t ≡ bit t
+byte_bit true = refl
+byte_bit false = refl
 
-  pub state_off : t ≡ false → to_z w32 (2 * c.token) ≡ state_in f c
-  unfolding state_of
-  state_off y = natural_is (2 * c.token) 103 (omega arith) (omega arith) ∙ (let z : 2 * c.token ≡ 2 * c.token + 0 = omega arith in rw (sym e ∙ y) (ap pos z))
+bit_small : (t : Bool) → bit t ≤ 1
+bit_small true = omega arith
+bit_small false = omega arith
 
--- ---- a coordinate, and a factor
-module _ (c : Corner) (j : ℕ) {z : ℤ} (h : mag z < 2 ^ 31) where
-  pub coordinate_even : mag c.a < 2 ^ 7 → j % 2 ≡ 0 → z ≡ to_z w8 (of_z w8 c.a) → to_z w32 (of_z w32 z) ≡ coordinate_at c j
-  coordinate_even k e f = rw (eq-eqb (j % 2) 0 e) (wide_back c.a k h f)
-
-  pub coordinate_odd : mag c.b < 2 ^ 7 → (j % 2 ≡ 0 → ⊥) → z ≡ to_z w8 (of_z w8 c.b) → to_z w32 (of_z w32 z) ≡ coordinate_at c j
-  coordinate_odd k e f = rw (ne_eqb (j % 2) 0 e) (wide_back c.b k h f)
-
-itself : {z : ℤ} → mag z < 2 ^ 31 → to_z w32 (of_z w32 z) ≡ z
-itself h = read_back h refl
-
-module _ (s : Separator) (j : ℕ) where
-  pub factor_first : mag s.x < 2 ^ 31 → j % 3 ≡ 0 → to_z w32 (of_z w32 s.x) ≡ factor_at s j
-  factor_first h e = rw (eq-eqb (j % 3) 0 e) (itself h)
-
-  pub factor_second : mag s.y < 2 ^ 31 → (j % 3 ≡ 0 → ⊥) → j % 3 ≡ 1 → to_z w32 (of_z w32 s.y) ≡ factor_at s j
-  factor_second h n e = rw (ne_eqb (j % 3) 0 n, eq-eqb (j % 3) 1 e) (itself h)
-
-  pub factor_third : mag s.c < 2 ^ 31 → (j % 3 ≡ 0 → ⊥) → (j % 3 ≡ 1 → ⊥) → to_z w32 (of_z w32 s.c) ≡ factor_at s j
-  factor_third h n e = rw (ne_eqb (j % 3) 0 n, ne_eqb (j % 3) 1 e) (itself h)
-
-pub ruleset parted = (coordinate_even, coordinate_odd, factor_first, factor_second, factor_third)
+pub state_is : (c : Child) (f : Bool) {t : Bool} → t ≡ flipped f c.flip → c.token < 52 → {n : ℕ} → n ≡ bool_byte t → to_z w32 (2 * c.token + n) ≡ state_in f c
+unfolding state_of
+state_is c f {t} e h {n} k =
+    let small : n ≤ 1 = omega (arith, byte_bit t, bit_small t) in
+    natural_is (2 * c.token + n) 103 (omega arith) (omega arith) ∙ ap (λ m. pos (2 * c.token + m)) (k ∙ byte_bit t ∙ ap bit e)
 
 -- ---- number j
 module _ (p : StateParts) (j : ℕ) {z : ℤ} (small : mag z < 2 ^ 31) where
@@ -87,12 +56,12 @@ module _ (p : StateParts) (j : ℕ) {z : ℤ} (small : mag z < 2 ^ 31) where
     number_start h e = read_back small e ∙ sym (rw (le-ltb j 4 past_states, lt-ltb j 12 h) refl)
 
     module _ (past_starts : 12 ≤ j) where
-      pub number_sum : j < 20 → z ≡ coordinate_at (get_or p.sums ((j - 12) / 2) no_corner) j → to_z w32 (of_z w32 z) ≡ number_of p j
+      pub number_sum : j < 20 → z ≡ coordinate_at (get_or p.leaves ((j - 12) / 2) no_leaf).sum j → to_z w32 (of_z w32 z) ≡ number_of p j
       unfolding number_of
       number_sum h e = read_back small e ∙ sym (rw (le-ltb j 4 past_states, le-ltb j 12 past_starts, lt-ltb j 20 h) refl)
 
       module _ (past_sums : 20 ≤ j) where
-        pub number_flavor : j < 24 → z ≡ get_or p.flavors (j - 20) (pos 0) → to_z w32 (of_z w32 z) ≡ number_of p j
+        pub number_flavor : j < 24 → z ≡ (get_or p.leaves (j - 20) no_leaf).flavor → to_z w32 (of_z w32 z) ≡ number_of p j
         unfolding number_of
         number_flavor h e = read_back small e ∙ sym (rw (le-ltb j 4 past_states, le-ltb j 12 past_starts, le-ltb j 20 past_sums, lt-ltb j 24 h) refl)
 
@@ -105,8 +74,8 @@ module _ (p : StateParts) (j : ℕ) {z : ℤ} (small : mag z < 2 ^ 31) where
           unfolding number_of
           number_choice h e = read_back small e ∙ sym (rw (le-ltb j 4 past_states, le-ltb j 12 past_starts, le-ltb j 20 past_sums, le-ltb j 24 past_flavors, le-ltb j 33 h) refl)
 
-pub child_token : {p : StateParts} → Tokened p → (j : ℕ) → j < 4 → (get_or p.children j no_child).token < 52
-child_token t j h = t.below j h
+pub child_token : (p : StateParts) (j : ℕ) → j < 4 → (get_or p.children j no_child).token < 52
+child_token p j h = p.tokened.below j h
 
 pub ruleset numbered = (number_state, number_start, number_sum, number_flavor, number_separator, number_choice, child_token)
 

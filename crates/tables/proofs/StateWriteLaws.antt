@@ -69,10 +69,10 @@ module _ {ls : List Line} {n : ℕ} {table₀ table : List ℤ} {k : ℕ} (so_fa
 
 module _ {text : List ℕ} {s : Source} (ready : Ready text s) where
   pub states_fit : Fits w64 (2 * s.count)
-  states_fit = record { fits = omega (arith, ready.held.few) }
+  states_fit = record { fits = omega (arith, s.few) }
 
   pub writing_start : (table : List ℤ) → 82 * s.count ≤ length table → Writing (lines_of text) (2 * s.count) table table 0
-  writing_start table h = record { front = refl; long = refl; room = omega arith; few = omega (arith, ready.held.few); within = omega arith }
+  writing_start table h = record { front = refl; long = refl; room = omega arith; few = omega (arith, s.few); within = omega arith }
 
   pub writing_end : {table₀ table : List ℤ} {k : ℕ} → Writing (lines_of text) (2 * s.count) table₀ table k → 2 * s.count ≤ k → table ≡ fronted (table_for text) table₀
   unfolding table_of

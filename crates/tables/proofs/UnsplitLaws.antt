@@ -11,7 +11,7 @@ use lib.Dec.{T, eqb}
 use lib.ListN.{length, get_or}
 use mir.Syntax.{w8}
 use mir.Val.{Fits}
-use borrow.Author.Tests.{not-true, not-false, eqb-false}
+use borrow.Author.Tests.{eqb-false}
 use Rattle.whole.proofs.Lists.{member_at}
 use Rattle.grammar.specs.Texts.{Line, lines_of}
 use Rattle.grammar.specs.Curves.{is_named, place_in, token_of}
@@ -79,14 +79,14 @@ module _ {text : List ℕ} {s : Source} (r : Ready text s) (i : ℕ) (h : i < mi
   lower_below e = rw (token_is (l.name + 32) e, length_letters r) (token_below lower_motif)
 
   module _ {n : ℕ} (e : n ≡ place_in (letters_in s) l.name) {a : Bool} (f : a ≡ splits ls n) where
-    pub split_bad : not a ≡ true → true ≡ bad_split ls l
+    pub split_bad : a ≡ false → not a ≡ bad_split ls l
     unfolding bad_split
-    split_bad y = let z : splits ls (token_of ls l.name) ≡ false = ap (splits ls) (sym (token_is l.name e)) ∙ sym f ∙ not-true a y in rw z refl
+    split_bad y = let z : splits ls (token_of ls l.name) ≡ false = ap (splits ls) (sym (token_is l.name e)) ∙ sym f ∙ y in rw (y, z) refl
 
-    pub split_last : not a ≡ false → {m : ℕ} → m ≡ place_in (letters_in s) (l.name + 32) → {b : Bool} → b ≡ splits ls m → not b ≡ bad_split ls l
+    pub split_last : a ≡ true → {m : ℕ} → m ≡ place_in (letters_in s) (l.name + 32) → {b : Bool} → b ≡ splits ls m → not b ≡ bad_split ls l
     unfolding bad_split
     split_last y g {b} k =
-        let z : splits ls (token_of ls l.name) ≡ true = ap (splits ls) (sym (token_is l.name e)) ∙ sym f ∙ not-false a y in
+        let z : splits ls (token_of ls l.name) ≡ true = ap (splits ls) (sym (token_is l.name e)) ∙ sym f ∙ y in
         let w : splits ls (token_of ls (l.name + 32)) ≡ b = ap (splits ls) (sym (token_is (l.name + 32) g)) ∙ sym k in
         rw (z, w) refl
 

@@ -1,8 +1,7 @@
 -- A token's four children: their tokens, flips and offsets; and its leaves.
-use Rattle.std.specs.Prelude.{Bool, false, List, [], ◌∷◌, ℕ, zero, suc, ◌+◌, ◌%◌, eqb, get_or}
+use Rattle.std.specs.Prelude.{Bool, false, List, [], ◌∷◌, ℕ, zero, suc, ◌+◌, ◌%◌, eqb, get_or, None}
 use Rattle.turtle.specs.declared.AB.{AB}
 use Rattle.turtle.specs.declared.walk.DrawnCell.{DrawnCell}
-use Rattle.turtle.specs.declared.letter.Flavor.{Flavor}
 use Rattle.turtle.specs.Plane.{origin, ◌⊕◌, signed, facing}
 use Rattle.turtle.specs.Walk.{Sym, left, right, letter, turtle, cells}
 use Rattle.grammar.specs.Words.{word_of}
@@ -41,7 +40,7 @@ unfoldable pub leaves : List Line → ℕ → Bool → List DrawnCell
 leaves ls m f = cells (strokes ls 1 (letter_of ls m)) (turtle origin (facing f))
 
 abbrev pub no_cell : DrawnCell
-no_cell = record { sum = origin; flavor = Flavor.None }
+no_cell = record { sum = origin; flavor = None }
 
 abbrev pub leaf : List Line → ℕ → Bool → ℕ → DrawnCell
 leaf ls m f d = get_or (leaves ls m f) d no_cell

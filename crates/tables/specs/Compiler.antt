@@ -1,11 +1,11 @@
 -- The compiler: the number of states of a text that is accepted, and its table in a part of what is lent; or a fault, or a part that is past the table.
-use Rattle.std.specs.Prelude.{cond, List, ℕ, ◌*◌, ℤ, length}
+use Rattle.std.specs.Prelude.{Result, Ok, Err, cond, List, ℕ, ◌*◌, ℤ, length}
 use Rattle.triple.specs.declared.refusal.Refusal.TheVariants.{Part}
 use Rattle.triple.specs.Refusals.{number_of}
 use Rattle.grammar.specs.Texts.{lines_of}
 use Rattle.grammar.specs.Curves.{token_bytes}
 use Rattle.grammar.specs.Tests.{Verdict, fine, fault}
-use Rattle.tables.specs.declared.compiler.CompileAnswer.{CompileAnswer}
+use Rattle.tables.specs.declared.compiler.CompileError.{CompileError}
 use Rattle.tables.specs.Parts.{is_past, with_part}
 use Rattle.tables.specs.Table.{table_of}
 use Rattle.tables.specs.Verdicts.{verdict}
@@ -16,10 +16,10 @@ pub data Compiled : Type 0 where
   faulty : ℕ → ℕ → Compiled
   refused : ℕ → Compiled
 
-abbrev pub said_compiled : CompileAnswer → Compiled
-said_compiled (CompileAnswer.States n) = states n
-said_compiled (CompileAnswer.Fault e line) = faulty (number_of e) line
-said_compiled (CompileAnswer.Refused e) = refused (number_of e)
+abbrev pub said_compiled : Result ℕ CompileError → Compiled
+said_compiled (Ok n) = states n
+said_compiled (Err (CompileError.Fault f)) = faulty (number_of f.refusal) f.line
+said_compiled (Err (CompileError.Refused e)) = refused (number_of e)
 
 abbrev pub table_for : List ℕ → List ℤ
 table_for text = table_of (lines_of text)

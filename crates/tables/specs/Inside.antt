@@ -3,4 +3,5 @@ pub mod Sources
 pub mod RuleChildren
 pub mod Leaves
 pub mod Frames
+pub mod Tokens
 pub mod StateNumbers

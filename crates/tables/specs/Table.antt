@@ -1,9 +1,8 @@
 -- The table of a grammar: each state's 41 numbers, in state order. A state is 2 * token + flip.
 -- 0 to 3: the children's states. 4 to 11: their offsets, pairs, opposite where the state is flipped. 12 to 19: the leaves' corner sums,
 -- pairs. 20 to 23: the leaves' flavors. 24 to 32: three separators of three, those unused 0. 33 to 40: the child for each pattern.
-use Rattle.std.specs.Prelude.{Bool, true, false, List, [], ◌∷◌, ◌++◌, ℕ, zero, suc, ◌+◌, ◌*◌, ℤ, pos, negsuc, length, get_or}
+use Rattle.std.specs.Prelude.{Bool, true, false, List, [], ◌∷◌, ◌++◌, ℕ, zero, suc, ◌+◌, ◌*◌, ℤ, pos, negsuc, length, get_or, Option, Some, None}
 use Rattle.turtle.specs.declared.AB.{AB}
-use Rattle.turtle.specs.declared.letter.Flavor.{Flavor}
 use Rattle.turtle.specs.declared.walk.DrawnCell.{DrawnCell}
 use Rattle.turtle.specs.Plane.{signed, flipped}
 use Rattle.classifier.specs.declared.Separator.{Separator}
@@ -25,9 +24,9 @@ abbrev pub pair : AB → List ℤ
 pair p = p.a ∷ p.b ∷ []
 
 -- a drawn cell that has no flavor is none of a state's: no such text is accepted
-abbrev pub flavor_number : Flavor → ℤ
-flavor_number (Flavor.Of f) = pos f
-flavor_number Flavor.None = negsuc 0
+abbrev pub flavor_number : Option ℕ → ℤ
+flavor_number (Some f) = pos f
+flavor_number None = negsuc 0
 
 -- a drawn cell, as a table has it
 abbrev pub leaf_of : DrawnCell → Leaf

@@ -7,8 +7,5 @@ ghost use Rattle.tables.specs.Parts.{is_past};
 pub fn is_past(size: usize, start: usize, states: usize) -> bool
     ensures { result ≡ is_past size start states }
 {
-    if start > size {
-        return true;
-    }
-    (size - start) / 41 < states
+    start > size || (size - start) / 41 < states
 }

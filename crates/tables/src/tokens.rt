@@ -4,14 +4,14 @@ ghost use Rattle.turtle.specs.Walk.{symbols_of};
 ghost use Rattle.grammar.specs.Words.{expand_once};
 ghost use Rattle.grammar.specs.Curves.{rules, strokes, token_bytes, place_in};
 ghost use Rattle.grammar.specs.Inside.Places.{lines_by, Sized};
-ghost use Rattle.tables.specs.Inside.Sources.{listed_from, letters_in, Holds};
+ghost use Rattle.tables.specs.Inside.Sources.{listed_from, letters_in};
 
 use crate::Source;
 use grammar::lines::{Lines, draw_book, is_listed, rule_book};
-use grammar::word::expand_once;
+use grammar::word::{count, expand_once};
 
 fn no_tokens(lines: Lines) -> Source
-    ensures { (result.lines ≡ lines) × (Holds 0 result × (letters_in result ≡ [])) }
+    ensures { (result.lines ≡ lines) × ((result.count ≡ 0) × (letters_in result ≡ [])) }
 {
     Source {
         lines,
@@ -21,8 +21,8 @@ fn no_tokens(lines: Lines) -> Source
 }
 
 fn with_token(source: Source, b: u8) -> Source
-    requires { Holds 51 source }
-    ensures { (result.lines ≡ source.lines) × (Holds (source.count + 1) result × (letters_in result ≡ letters_in source ++ (b ∷ []))) }
+    requires { source.count < 52 }
+    ensures { (result.lines ≡ source.lines) × ((result.count ≡ source.count + 1) × (letters_in result ≡ letters_in source ++ (b ∷ []))) }
 {
     let n = source.count;
     let lines = source.lines;
@@ -37,8 +37,8 @@ fn with_token(source: Source, b: u8) -> Source
 
 // The byte as a further token, if it is a letter of a listed motif.
 fn with_listed(source: Source, b: u8) -> Source
-    requires { Holds 51 source }
-    ensures { (result.lines ≡ source.lines) × (Holds (source.count + 1) result × (letters_in result ≡ letters_in source ++ listed_from source.lines 1 b)) }
+    requires { source.count < 52 }
+    ensures { (result.lines ≡ source.lines) × ((result.count ≤ source.count + 1) × (letters_in result ≡ letters_in source ++ listed_from source.lines 1 b)) }
 {
     let lines = source.lines;
     if is_listed(lines, b) {
@@ -49,41 +49,33 @@ fn with_listed(source: Source, b: u8) -> Source
 
 // Those of 26 bytes that are letters of listed motifs, as further tokens.
 fn with_letters(source: Source, first: u8) -> Source
-    requires { Holds 26 source × (first ≤ 97) }
-    ensures { (result.lines ≡ source.lines) × (Holds (source.count + 26) result × (letters_in result ≡ letters_in source ++ listed_from source.lines 26 first)) }
+    requires { (source.count ≤ 26) × (first ≤ 97) }
+    ensures { (result.lines ≡ source.lines) × ((result.count ≤ source.count + 26) × (letters_in result ≡ letters_in source ++ listed_from source.lines 26 first)) }
 {
     let mut all = source;
-    let mut b = first;
-    while b < first + 26 {
+    for b in first..first + 26 {
         all = with_listed(all, b);
-        b += 1;
     }
     all
 }
 
 // The lines and their tokens.
 pub(crate) fn source_of(lines: Lines) -> Source
-    ensures { (result.lines ≡ lines) × (Holds 52 result × ((text : List ℕ) → letters_in result ≡ token_bytes (lines_by text lines))) }
+    ensures { (result.lines ≡ lines) × ((text : List ℕ) → letters_in result ≡ token_bytes (lines_by text lines)) }
 {
     let motifs = with_letters(no_tokens(lines), b'A');
     with_letters(motifs, b'a')
 }
 
 // The token of a letter; the number of tokens where there is none.
+// Stays a number where there is none: `place_in` of the definitions answers so.
 pub(crate) fn token_of(source: Source, b: u8) -> usize
-    requires { Holds 52 source }
     ensures { result ≡ place_in (letters_in source) b }
 {
-    let bytes = source.bytes;
-    let count = source.count;
-    let mut i = 0;
-    while i < count {
-        if bytes[i] == b {
-            return i;
-        }
-        i += 1;
-    }
-    i
+    source.bytes[..source.count]
+        .iter()
+        .position(|a| *a == b)
+        .unwrap_or(source.count)
 }
 
 // The rule of a letter.
@@ -92,7 +84,7 @@ pub(crate) fn rule_into(text: &[u8], lines: Lines, letter: u8, out: &mut [u8]) -
     ensures { (take result out.new ≡ expand_once (rules (lines_by text.now lines)) (letter ∷ [])) × (result ≤ 24) }
 {
     let word = [letter; 1];
-    expand_once(text, rule_book(lines), &word, out).count()
+    count(expand_once(text, rule_book(lines), &word, out))
 }
 
 // The draws of a letter's rule.
@@ -102,5 +94,5 @@ pub(crate) fn strokes_into(text: &[u8], lines: Lines, letter: u8, out: &mut [u8]
 {
     let mut rule = [0u8; 24];
     let n = rule_into(text, lines, letter, &mut rule);
-    expand_once(text, draw_book(lines), &rule[0..n], out).count()
+    count(expand_once(text, draw_book(lines), &rule[..n], out))
 }

@@ -2,7 +2,6 @@
 use mathlib.Core.Path.{◌≡◌, refl, ap}
 use mathlib.Core.Bool.{Bool, true, false, cond}
 use mathlib.Core.List.{List, [], ◌∷◌}
-use mathlib.Core.Option.{some, none}
 use Prim.Native.Nat.{ℕ, suc, ◌+◌, ◌-◌, ◌^◌, ◌≤◌, ◌<◌}
 use native.Mathlib.Numerals.{add-one}
 use native.Mathlib.Omega.{arith}
@@ -13,10 +12,9 @@ use lib.ListN.{length, get_or, take, drop, length-take, length-drop, drop_of_len
 use lib.Seq.{drop-cons, take_all, length-take-le}
 use mir.Syntax.{w64}
 use mir.Val.{Fits}
+use Rattle.std.specs.Prelude.{Option, Some, None}
 use Rattle.text.specs.Digits.{digit_of}
 use Rattle.text.specs.Decimals.{signed, i64, digit_count, decimal_length, with_place, decimal_at}
-use Rattle.text.specs.declared.number.WideWord.{WideWord}
-use Rattle.text.specs.Answers.{said_wide}
 
 -- ---- the digits in front
 pub digit_count_most : (s : List ℕ) → digit_count s ≤ length s
@@ -80,23 +78,23 @@ pub ruleset decimal_length_laws = (length_empty, length_minus, length_plain, min
 
 -- ---- the decimal
 module _ (s : List ℕ) (at : ℕ) where
-  pub past_unread : length s < at → none ≡ decimal_at s at
+  pub past_unread : length s < at → None ≡ decimal_at s at
   unfolding decimal_at decimal_length signed
   past_unread h = rw (drop_of_length-le s {i = at} (omega arith))
 
   -- the rest of the bytes, and what is read of it
-  module _ (n : ℕ) (r : WideWord) (e : n ≡ decimal_length (take (length s - at) (drop at s))) (p : said_wide r ≡ i64 (take n (take (length s - at) (drop at s)))) where
+  module _ (n : ℕ) (r : Option ℤ) (e : n ≡ decimal_length (take (length s - at) (drop at s))) (p : r ≡ i64 (take n (take (length s - at) (drop at s)))) where
     rest : take (length s - at) (drop at s) ≡ drop at s
     rest = take_all (length s - at) (drop at s) (omega (arith, length-drop at s))
 
-    by_word : with_place (at + n) (said_wide r) ≡ decimal_at s at
+    by_word : with_place (at + n) (r) ≡ decimal_at s at
     unfolding decimal_at
     by_word = rw (p, e, rest)
 
-    pub placed_unread : r ≡ WideWord.Unread → none ≡ decimal_at s at
+    pub placed_unread : r ≡ None → None ≡ decimal_at s at
     placed_unread u = rw u at by_word
 
-    pub placed_read : (z : ℤ) → r ≡ WideWord.Wide z → some (z, at + n) ≡ decimal_at s at
+    pub placed_read : (z : ℤ) → r ≡ Some z → Some (z, at + n) ≡ decimal_at s at
     placed_read z u = rw u at by_word
 
   -- as many bytes as are read are there

@@ -17,12 +17,13 @@ use mir.Syntax.{w64}
 use mir.Val.{Fits, to_z, of_z}
 use mir.ValLaws.{to_z-of_z}
 use borrow.Author.Rules.{sfits_of}
+use Rattle.std.specs.Int.{from_bool}
 use Rattle.text.specs.Decimals.{natural, integer}
-use Rattle.text.specs.Patterns.{hex_digits, pattern}
+use Rattle.text.specs.Patterns.{pattern}
 use Rattle.text.specs.Puts.{place_after, with_text, after_put, Put}
-use Rattle.text.specs.Inside.Putting.{led, lead_length}
+use Rattle.text.specs.Inside.Putting.{led, lowest}
 use Rattle.text.proofs.DecimalLaws.{some_digit, natural_most}
-use Rattle.text.proofs.DigitLaws.{hex_length}
+use Rattle.text.proofs.DigitLaws.{lowest_length, lowest_hex, lowest_natural}
 
 -- ---- the place after so many bytes
 module _ (room at size : ℕ) where
@@ -113,13 +114,13 @@ sets_then l at (b ∷ u) v =
 
 -- ---- a byte in front, or none
 module _ (lead : Bool) (b at : ℕ) (slice : List ℕ) where
-  pub lead_there : lead ≡ true → at + 1 ≡ at + lead_length lead
+  pub lead_there : lead ≡ true → at + 1 ≡ at + from_bool lead
   lead_there e = rw e
 
   pub lead_stored : lead ≡ true → set slice at b ≡ sets slice at (led lead b [])
   lead_stored e = rw e
 
-  pub lead_absent : lead ≡ false → at ≡ at + lead_length lead
+  pub lead_absent : lead ≡ false → at ≡ at + from_bool lead
   lead_absent e = rw (e, add-zero)
 
   pub lead_skipped : lead ≡ false → slice ≡ sets slice at (led lead b [])
@@ -127,11 +128,11 @@ module _ (lead : Bool) (b at : ℕ) (slice : List ℕ) where
 
 pub ruleset lead_laws = (lead_there, lead_stored, lead_absent, lead_skipped)
 
-lead_length_lem : (lead : Bool) (b : ℕ) (w : List ℕ) → length (led lead b w) ≡ lead_length lead + length w
+lead_length_lem : (lead : Bool) (b : ℕ) (w : List ℕ) → length (led lead b w) ≡ from_bool lead + length w
 lead_length_lem true b w = omega arith
 lead_length_lem false b w = omega arith
 
-lead_most : (lead : Bool) → lead_length lead ≤ 1
+lead_most : (lead : Bool) → from_bool lead ≤ 1
 lead_most true = omega arith
 lead_most false = omega arith
 
@@ -140,94 +141,67 @@ lead_then true b w = refl
 lead_then false b w = refl
 
 -- a lead, and then a text
-led_stored : (slice : List ℕ) (at : ℕ) (lead : Bool) (b m : ℕ) (w : List ℕ) → m ≡ at + lead_length lead → sets (sets slice at (led lead b [])) m w ≡ sets slice at (led lead b w)
+led_stored : (slice : List ℕ) (at : ℕ) (lead : Bool) (b m : ℕ) (w : List ℕ) → m ≡ at + from_bool lead → sets (sets slice at (led lead b [])) m w ≡ sets slice at (led lead b w)
 led_stored slice at lead b m w e =
     let p : m ≡ at + length (led lead b []) = omega (arith, lead_length_lem lead b []) in
     ap (λ (k : ℕ). sets (sets slice at (led lead b [])) k w) p ∙ sets_then slice at (led lead b []) w ∙ ap (sets slice at) (lead_then lead b w)
 
--- ---- a number's digits, after a space and a minus sign
-module _ (space minus : Bool) (a b : ℕ) (ea : a ≡ lead_length space) (eb : b ≡ lead_length minus) where
+-- ---- a number's digits, after a space and a minus sign: the place after them is worked out first
+module _ (space minus : Bool) (a b k : ℕ) (ea : a ≡ from_bool space) (eb : b ≡ from_bool minus) (most : k ≤ 20) where
   pub leads_fit : Fits w64 (a + b)
   leads_fit = record { fits = omega (arith, lead_most space, lead_most minus) }
 
-  pub number_fits : (n k : ℕ) → k ≡ length (natural n) → n < 2 ^ 64 → Fits w64 (a + b + k)
-  number_fits n k ek h = record { fits = omega (arith, lead_most space, lead_most minus, natural_most n h) }
+  pub number_fits : Fits w64 (a + b + k)
+  number_fits = record { fits = omega (arith, lead_most space, lead_most minus) }
 
-abbrev number_text : Bool → Bool → ℕ → List ℕ
-number_text space minus n = led space 32 (led minus 45 (natural n))
+module _ (a b k at e : ℕ) (slice : List ℕ) (p : e ≡ place_after (length slice) at (a + b + k)) (some : 0 < k) (base n : ℕ) (space : Bool) (ea : a ≡ from_bool space) (minus : Bool) (eb : b ≡ from_bool minus) where
+  abbrev text : List ℕ
+  text = led space 32 (led minus 45 (lowest base k n))
 
--- the place after it is worked out first
-module _ (a b k at e : ℕ) (slice : List ℕ) (p : e ≡ place_after (length slice) at (a + b + k)) (n : ℕ) (ek : k ≡ length (natural n)) (space : Bool) (ea : a ≡ lead_length space) (minus : Bool) (eb : b ≡ lead_length minus) where
-  number_size : a + b + k ≡ length (number_text space minus n)
-  number_size = omega (arith, lead_length_lem space 32 (led minus 45 (natural n)), lead_length_lem minus 45 (natural n))
+  number_size : a + b + k ≡ length text
+  number_size = omega (arith, lead_length_lem space 32 (led minus 45 (lowest base k n)), lead_length_lem minus 45 (lowest base k n), lowest_length base k n)
 
-  pub number_none : length slice < e → Put slice at (number_text space minus n) slice e
-  number_none h = put_none slice at (number_text space minus n) (a + b + k) e number_size p h
+  pub number_none : length slice < e → Put slice at text slice e
+  number_none h = put_none slice at text (a + b + k) e number_size p h
 
   module _ (h : e ≤ length slice) where
     pub space_room : at < length slice
-    space_room = omega (arith, room_shown (length slice) at (a + b + k) e p h, some_digit n)
+    space_room = omega (arith, room_shown (length slice) at (a + b + k) e p h)
 
-    module _ (first : List ℕ) (m : ℕ) (f : m ≡ at + lead_length space) (g : first ≡ sets slice at (led space 32 [])) where
+    module _ (first : List ℕ) (m : ℕ) (f : m ≡ at + from_bool space) (g : first ≡ sets slice at (led space 32 [])) where
       first_length : length first ≡ length slice
       first_length = ap length g ∙ length-sets slice at (led space 32 [])
 
       pub minus_room : m < length first
-      minus_room = omega (arith, first_length, room_shown (length slice) at (a + b + k) e p h, some_digit n)
+      minus_room = omega (arith, first_length, room_shown (length slice) at (a + b + k) e p h)
 
-      module _ (second : List ℕ) (j : second ≡ sets first m (led minus 45 [])) where
-        pub digits_before : length (natural n) ≤ e
-        digits_before = omega (arith, shown_room (length slice) at (a + b + k) e p h)
+      module _ (second : List ℕ) (o : ℕ) (q : o ≡ m + from_bool minus) (j : second ≡ sets first m (led minus 45 [])) where
+        pub digits_room : o + k ≤ length second
+        digits_room = omega (arith, first_length, ap length j, length-sets first m (led minus 45 []), room_shown (length slice) at (a + b + k) e p h)
 
-        pub digits_room : e ≤ length second
-        digits_room = omega (arith, first_length, ap length j, length-sets first m (led minus 45 []))
-
-        pub number_put : (last : List ℕ) → last ≡ sets second (e - length (natural n)) (natural n) → Put slice at (number_text space minus n) last e
+        pub number_put : (last : List ℕ) → last ≡ sets second o (lowest base k n) → Put slice at text last e
         number_put last l =
-            let s = shown_room (length slice) at (a + b + k) e p h in
-            let q : e - length (natural n) ≡ m + lead_length minus = omega (arith, s.1) in
-            let r : at + length (number_text space minus n) ≤ length slice = omega (arith, number_size, s.0) in
-            let o : last ≡ sets slice at (number_text space minus n) =
-            l ∙ ap (λ (w : List ℕ). sets w (e - length (natural n)) (natural n)) j
-            ∙ led_stored first m minus 45 (e - length (natural n)) (natural n) q
-            ∙ ap (λ (w : List ℕ). sets w m (led minus 45 (natural n))) g
-            ∙ led_stored slice at space 32 m (led minus 45 (natural n)) f in
-            put_some slice at (number_text space minus n) (a + b + k) e number_size p h last (o ∙ sets-eq (number_text space minus n) slice at r)
+            let r : at + length text ≤ length slice = omega (arith, number_size, room_shown (length slice) at (a + b + k) e p h) in
+            let t : last ≡ sets slice at text =
+            l ∙ ap (λ (w : List ℕ). sets w o (lowest base k n)) j
+            ∙ led_stored first m minus 45 o (lowest base k n) q
+            ∙ ap (λ (w : List ℕ). sets w m (led minus 45 (lowest base k n))) g
+            ∙ led_stored slice at space 32 m (led minus 45 (lowest base k n)) f in
+            put_some slice at text (a + b + k) e number_size p h last (t ∙ sets-eq text slice at r)
 
-pub ruleset number_laws = (leads_fit, number_fits, number_none, space_room, minus_room, digits_before, digits_room, number_put)
+pub ruleset number_laws = (leads_fit, number_fits, number_none, space_room, minus_room, digits_room, number_put)
 
--- ---- a float's pattern, after a space
-module _ (space : Bool) (x : Float) (at a e : ℕ) (slice : List ℕ) (ea : a ≡ lead_length space) where
-  pub pattern_fits : Fits w64 (a + 16)
-  pattern_fits = record { fits = omega (arith, lead_most space) }
+-- in decimal, and a float's pattern
+module _ (slice after : List ℕ) (at next n k : ℕ) (space minus : Bool) where
+  pub decimal_count : k ≡ length (natural n) → n < 2 ^ 64 → (0 < k) × (k ≤ 20)
+  decimal_count e h = (omega (arith, some_digit n), omega (arith, natural_most n h))
 
-  pattern_size : a + 16 ≡ length (led space 32 (pattern x))
-  unfolding pattern
-  pattern_size = omega (arith, lead_length_lem space 32 (pattern x), hex_length 16 (to_bits binary64 x))
+  pub decimal_put : k ≡ length (natural n) → Put slice at (led space 32 (led minus 45 (lowest 10 k n))) after next → Put slice at (led space 32 (led minus 45 (natural n))) after next
+  decimal_put e p = rw (lowest_natural k n e) at p
 
-  module _ (p : e ≡ place_after (length slice) at (a + 16)) where
-    pub pattern_none : length slice < e → Put slice at (led space 32 (pattern x)) slice e
-    pattern_none h = put_none slice at (led space 32 (pattern x)) (a + 16) e pattern_size p h
-
-    module _ (h : e ≤ length slice) where
-      pub pattern_space : at < length slice
-      pattern_space = omega (arith, room_shown (length slice) at (a + 16) e p h)
-
-      module _ (first : List ℕ) (m : ℕ) (f : m ≡ at + lead_length space) (g : first ≡ sets slice at (led space 32 [])) where
-        pub pattern_room : m + 16 ≤ length first
-        pattern_room = omega (arith, ap length g, length-sets slice at (led space 32 []), room_shown (length slice) at (a + 16) e p h)
-
-        pub pattern_put : (last : List ℕ) (bits : ℕ) → bits ≡ to_bits binary64 x → last ≡ sets first m (hex_digits 16 bits) → Put slice at (led space 32 (pattern x)) last e
-        unfolding pattern
-        pattern_put last bits y l =
-            let r : at + length (led space 32 (pattern x)) ≤ length slice = omega (arith, pattern_size, room_shown (length slice) at (a + 16) e p h) in
-            let o : last ≡ sets slice at (led space 32 (pattern x)) =
-            l ∙ ap (λ (w : List ℕ). sets w m (hex_digits 16 bits)) g
-            ∙ ap (λ (v : ℕ). sets (sets slice at (led space 32 [])) m (hex_digits 16 v)) y
-            ∙ led_stored slice at space 32 m (pattern x) f in
-            put_some slice at (led space 32 (pattern x)) (a + 16) e pattern_size p h last (o ∙ sets-eq (led space 32 (pattern x)) slice at r)
-
-pub ruleset pattern_laws = (pattern_fits, pattern_none, pattern_space, pattern_room, pattern_put)
+pub pattern_put : (slice after : List ℕ) (at next bits : ℕ) (space : Bool) (x : Float) → bits ≡ to_bits binary64 x → Put slice at (led space 32 (lowest 16 16 bits)) after next → Put slice at (led space 32 (pattern x)) after next
+unfolding pattern
+pattern_put slice after at next bits space x e p = rw (lowest_hex 16 bits, e) at p
 
 -- ---- a sign where a number is below 0, and the digits of its size
 signed_digits : (z : ℤ) → led (lt_z z (pos 0)) 45 (natural (nat_abs z)) ≡ integer z

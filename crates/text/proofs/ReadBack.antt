@@ -1,9 +1,9 @@
 -- What is written is read back, and a number is read from nothing but what it is written as: so a decimal of a number is one word, and a word is the decimal of one number.
+use Rattle.std.specs.Prelude.{Option, Some, None}
 use mathlib.Core.Path.{◌≡◌, refl, sym, ap, ap₂, ◌∙◌}
 use mathlib.Core.Bool.{Bool, true, false, not, ◌&&◌, cond, and-false}
 use mathlib.Core.Logic.{◌⊎◌, inl, inr}
 use mathlib.Core.List.{List, [], ◌∷◌, ◌++◌, append_assoc, append-nil}
-use mathlib.Core.Option.{Option, some, none}
 use Prim.Native.Nat.{ℕ, zero, suc, ◌+◌, ◌-◌, ◌*◌, ◌/◌, ◌%◌, ◌^◌, ◌≤◌, ◌<◌}
 use native.Mathlib.Decide.{dec_lt}
 use native.Mathlib.Nat.{pow-zero, pow-suc}
@@ -118,7 +118,7 @@ natural_decimal n = elim (dec_lt n 10) [
 ]
 
 -- WHAT IS WRITTEN is read back
-pub natural_read_back : (most n : ℕ) → n ≤ most → up_to most (natural n) ≡ some n
+pub natural_read_back : (most n : ℕ) → n ≤ most → up_to most (natural n) ≡ Some n
 unfolding up_to
 natural_read_back most n h = rw (natural_decimal n, (written n).value, le-leb n most h)
 
@@ -152,7 +152,7 @@ decimal_back (b ∷ c ∷ w) e =
     ∙ ap (λ (l : List ℕ). l ++ (c ∷ w)) (natural_one (digit_of b) d ∙ ap (λ (v : ℕ). v ∷ []) (byte_back b d).0)
 
 -- A NUMBER IS READ from its decimal alone
-pub natural_read_only : (most n : ℕ) (w : List ℕ) → up_to most w ≡ some n → w ≡ natural n
+pub natural_read_only : (most n : ℕ) (w : List ℕ) → up_to most w ≡ Some n → w ≡ natural n
 unfolding up_to
 natural_read_only most n w p =
     let v = value_after 10 0 w in
@@ -163,7 +163,7 @@ natural_read_only most n w p =
 first_digit_lem : (n : ℕ) → 48 ≤ get_or (natural n) 0 0
 first_digit_lem n = elim (dec_lt n 1) [ yes l ↦ rw (natural_one n (omega arith)) (omega arith) | no l ↦ omega (arith, (written n).first (omega arith)) ]
 
-pub integer_read_back : (bound : ℕ) (z : ℤ) → mag z < bound → signed bound (integer z) ≡ some z
+pub integer_read_back : (bound : ℕ) (z : ℤ) → mag z < bound → signed bound (integer z) ≡ Some z
 unfolding integer signed
 integer_read_back bound (pos n) h =
     let e : length (natural n) ≡ 0 → ⊥ = λ e. omega (arith, some_digit n) in
@@ -171,21 +171,21 @@ integer_read_back bound (pos n) h =
     sym (signed_plain bound (natural n) e f) ∙ ap plain (natural_read_back (bound - 1) n (omega arith))
 integer_read_back bound (negsuc n) h = ap negated (natural_read_back bound (suc n) (omega arith))
 
-pub integer_read_only : (bound : ℕ) (z : ℤ) (w : List ℕ) → signed bound w ≡ some z → w ≡ integer z
+pub integer_read_only : (bound : ℕ) (z : ℤ) (w : List ℕ) → signed bound w ≡ Some z → w ≡ integer z
 unfolding signed integer
 integer_read_only bound z [] p = let q : ◌≡◌ {A = ℕ} 0 1 = cc in absurd (omega arith)
 integer_read_only bound z (b ∷ w) p = go (eqb b 45) refl p
   where
-    minus : b ≡ 45 → (o : Option ℕ) → up_to bound w ≡ o → negated o ≡ some z → b ∷ w ≡ integer z
-    minus s none q e = let x : ◌≡◌ {A = ℕ} 0 1 = cc in absurd (omega arith)
-    minus s (some zero) q e = let x : ◌≡◌ {A = ℕ} 0 1 = cc in absurd (omega arith)
-    minus s (some (suc n)) q e = let f : negsuc n ≡ z = cc in rw (s, ← f) (ap (λ (l : List ℕ). 45 ∷ l) (natural_read_only bound (suc n) w q))
+    minus : b ≡ 45 → (o : Option ℕ) → up_to bound w ≡ o → negated o ≡ Some z → b ∷ w ≡ integer z
+    minus s None q e = let x : ◌≡◌ {A = ℕ} 0 1 = cc in absurd (omega arith)
+    minus s (Some zero) q e = let x : ◌≡◌ {A = ℕ} 0 1 = cc in absurd (omega arith)
+    minus s (Some (suc n)) q e = let f : negsuc n ≡ z = cc in rw (s, ← f) (ap (λ (l : List ℕ). 45 ∷ l) (natural_read_only bound (suc n) w q))
 
-    straight : (o : Option ℕ) → up_to (bound - 1) (b ∷ w) ≡ o → plain o ≡ some z → b ∷ w ≡ integer z
-    straight none q e = let x : ◌≡◌ {A = ℕ} 0 1 = cc in absurd (omega arith)
-    straight (some n) q e = let f : pos n ≡ z = cc in rw (← f) (natural_read_only (bound - 1) n (b ∷ w) q)
+    straight : (o : Option ℕ) → up_to (bound - 1) (b ∷ w) ≡ o → plain o ≡ Some z → b ∷ w ≡ integer z
+    straight None q e = let x : ◌≡◌ {A = ℕ} 0 1 = cc in absurd (omega arith)
+    straight (Some n) q e = let f : pos n ≡ z = cc in rw (← f) (natural_read_only (bound - 1) n (b ∷ w) q)
 
-    go : (u : Bool) → eqb b 45 ≡ u → cond u (negated (up_to bound w)) (plain (up_to (bound - 1) (b ∷ w))) ≡ some z → b ∷ w ≡ integer z
+    go : (u : Bool) → eqb b 45 ≡ u → cond u (negated (up_to bound w)) (plain (up_to (bound - 1) (b ∷ w))) ≡ Some z → b ∷ w ≡ integer z
     go true e p = minus (eqb-true b 45 e) (up_to bound w) refl p
     go false e p = straight (up_to (bound - 1) (b ∷ w)) refl p
 
@@ -207,11 +207,11 @@ length_then (pos n) rest e =
     sym (length_plain (natural n ++ rest) (length (natural n)) l m c)
 length_then (negsuc n) rest e = omega (arith, count_then (natural (suc n)) rest (written (suc n)).all)
 
-pub decimal_read_back : (s : List ℕ) (at : ℕ) (z : ℤ) (rest : List ℕ) → mag z < 2 ^ 63 → drop at s ≡ integer z ++ rest → digit_count rest ≡ 0 → decimal_at s at ≡ some (z, at + length (integer z))
+pub decimal_read_back : (s : List ℕ) (at : ℕ) (z : ℤ) (rest : List ℕ) → mag z < 2 ^ 63 → drop at s ≡ integer z ++ rest → digit_count rest ≡ 0 → decimal_at s at ≡ Some (z, at + length (integer z))
 unfolding decimal_at
 decimal_read_back s at z rest m e f = rw (e, length_then z rest f, take_at (integer z) rest (length (integer z)) refl, integer_read_back (2 ^ 63) z m)
 
-pub decimal_read_only : (s : List ℕ) (at : ℕ) (z : ℤ) (next : ℕ) → decimal_at s at ≡ some (z, next) → (next ≡ at + length (integer z)) × (drop at s ≡ integer z ++ drop next s)
+pub decimal_read_only : (s : List ℕ) (at : ℕ) (z : ℤ) (next : ℕ) → decimal_at s at ≡ Some (z, next) → (next ≡ at + length (integer z)) × (drop at s ≡ integer z ++ drop next s)
 unfolding decimal_at
 decimal_read_only s at z next p =
     let n = decimal_length (drop at s) in
@@ -221,9 +221,9 @@ decimal_read_only s at z next p =
     let d : drop next s ≡ drop n (drop at s) = sym (drop-drop n at s ∙ ap (λ (k : ℕ). drop k s) q.1) in
     (sym q.1 ∙ ap (λ (k : ℕ). at + k) l, sym (ap₂ (λ (u : List ℕ) (v : List ℕ). u ++ v) (sym w) d ∙ take-append-drop n (drop at s)))
   where
-    go : (place : ℕ) (o : Option ℤ) → with_place place o ≡ some (z, next) → (o ≡ some z) × (place ≡ next)
-    go place none e = let x : ◌≡◌ {A = ℕ} 0 1 = cc in absurd (omega arith)
-    go place (some y) e = let f : ◌≡◌ {A = ℤ × ℕ} (y, place) (z, next) = cc in (ap (λ (t : ℤ × ℕ). some t.0) f, ap (λ (t : ℤ × ℕ). t.1) f)
+    go : (place : ℕ) (o : Option ℤ) → with_place place o ≡ Some (z, next) → (o ≡ Some z) × (place ≡ next)
+    go place None e = let x : ◌≡◌ {A = ℕ} 0 1 = cc in absurd (omega arith)
+    go place (Some y) e = let f : ◌≡◌ {A = ℤ × ℕ} (y, place) (z, next) = cc in (ap (λ (t : ℤ × ℕ). Some t.0) f, ap (λ (t : ℤ × ℕ). t.1) f)
 
 -- ---- patterns
 hex_read : (n v : ℕ) → v < 16 ^ n → (all_digits 16 (hex_digits n v) ≡ true) × (value_after 16 0 (hex_digits n v) ≡ v)
@@ -237,7 +237,7 @@ hex_read (suc n) v h =
       rw (value_then 16 0 (hex_digits n (v / 16)) last, r.1, digit_back (v % 16) m) (omega arith),
     )
 
-pub float_read_back : (x : Float) → T (fits binary64 x) → f64 (pattern x) ≡ some x
+pub float_read_back : (x : Float) → T (fits binary64 x) → f64 (pattern x) ≡ Some x
 unfolding f64 pattern
 float_read_back x f =
     let r = hex_read 16 (to_bits binary64 x) (omega (arith, to_bits-lt binary64 x f)) in

@@ -12,6 +12,8 @@ use lib.ListN.{length, get_or, take, drop, length-drop, drop_of_length-le, get_o
 use lib.Seq.{drop-cons, drop-drop, take_all}
 use mir.Syntax.{w64}
 use mir.Val.{Fits}
+use Rattle.std.specs.List.{count_by}
+use Rattle.std.proofs.lemmas.List.Sums.{sum_by-cons}
 use Rattle.text.specs.Words.{until, grown, words_of, spaced}
 
 -- ---- the place of the first b
@@ -61,6 +63,20 @@ words_more (b ∷ w) h = go (eqb b 32) h (words_more w)
         → cond u ([] ∷ words_of w) (grown b (words_of w)) ≡ take (cond u 0 (suc (until 32 w))) (b ∷ w) ∷ words_of (drop (suc (cond u 0 (suc (until 32 w)))) (b ∷ w))
     go true k rest = refl
     go false k rest = ap (grown b) (rest (omega arith))
+
+-- ---- one more than the spaces
+grown_length : (b : ℕ) (ws : List (List ℕ)) → length (grown b ws) ≡ length ws
+grown_length b [] = refl
+grown_length b (w ∷ ws) = refl
+
+pub words_counted : (w : List ℕ) → 1 + count_by (λ c. eqb c 32) w ≡ length (words_of w)
+unfolding words_of
+words_counted [] = refl
+words_counted (b ∷ w) = rw sum_by-cons (go (eqb b 32) (words_counted w))
+  where
+    go : (u : Bool) → 1 + count_by (λ c. eqb c 32) w ≡ length (words_of w) → 1 + (cond u 1 0 + count_by (λ c. eqb c 32) w) ≡ length (cond u ([] ∷ words_of w) (grown b (words_of w)))
+    go true p = omega arith
+    go false p = omega (arith, grown_length b (words_of w))
 
 first_word : (w : List ℕ) → get_or (words_of w) 0 [] ≡ take (until 32 w) w
 first_word w = elim (dec_lt (until 32 w) (length w)) [
@@ -113,43 +129,22 @@ module _ (line : List ℕ) (at e : ℕ) (h : at ≤ length line) (o : e ≡ at +
   pub next_fits : (e ≡ length line → ⊥) → length line < 2 ^ 64 → Fits w64 (e + 1)
   next_fits n l = record { fits = omega (arith, next_within n) }
 
-  pub next_less : (e ≡ length line → ⊥) → length line - (e + 1) < length line - at
-  next_less n = omega (arith, end_most, next_within n)
-
-  -- n words are counted, all but those from here on
-  module _ (n : ℕ) where
-    pub count_last : e ≡ length line → n + length (words_of (drop at line)) ≡ length (words_of line) + 1 → n ≡ length (words_of line)
-    count_last l p = omega (arith, ap length (last_here l))
-
-    pub count_next : (e ≡ length line → ⊥) → n + length (words_of (drop at line)) ≡ length (words_of line) + 1 → n + 1 + length (words_of (drop (e + 1) line)) ≡ length (words_of line) + 1
-    count_next l p = omega (arith, ap length (more_here l))
-
-    pub count_small : n ≤ at + 1 → n + 1 ≤ e + 1 + 1
-    count_small l = omega (arith, end_most)
-
-    pub count_fits : n ≤ at + 1 → length line < 2 ^ 63 → Fits w64 (n + 1)
-    count_fits l m = record { fits = omega (arith, end_most) }
-
-  -- x is the word that is sought, with so many before it
-  module _ (left : ℕ) (x : List ℕ) (g : 0 < left) (s : get_or (words_of (drop at line)) left [] ≡ x) where
+  -- x is the word that is sought, k from the line's start, after i words of it
+  module _ (k i : ℕ) (x : List ℕ) (g : i < k) (s : get_or (words_of (drop at line)) (k - i) [] ≡ x) where
     pub start_none : e ≡ length line → get_or (words_of (drop e line)) 0 [] ≡ x
     unfolding words_of
     start_none l =
+        let g' : 0 < k - i = omega arith in
         ap (λ (w : List ℕ). get_or (words_of w) 0 []) (drop_of_length-le line {i = e} (omega arith))
-        ∙ sym (get_or-eq_default (drop at line ∷ []) [] g)
-        ∙ ap (λ (w : List (List ℕ)). get_or w left []) (sym (last_here l)) ∙ s
+        ∙ sym (get_or-eq_default (drop at line ∷ []) [] g')
+        ∙ ap (λ (w : List (List ℕ)). get_or w (k - i) []) (sym (last_here l)) ∙ s
 
-    pub start_next : (e ≡ length line → ⊥) → get_or (words_of (drop (e + 1) line)) (left - 1) [] ≡ x
+    pub start_next : (e ≡ length line → ⊥) → get_or (words_of (drop (e + 1) line)) (k - (i + 1)) [] ≡ x
     start_next l =
-        let p : suc (left - 1) ≡ left = omega arith in
+        let p : suc (k - (i + 1)) ≡ k - i = omega arith in
         rw (← p, more_here l) at s
 
-pub start_here : (w : List (List ℕ)) (left : ℕ) (x : List ℕ) → left ≤ 0 → get_or w left [] ≡ x → get_or w 0 [] ≡ x
-start_here w left x l s = let z : left ≡ 0 = omega arith in rw z at s
-
-pub ruleset count_laws = (next_within, next_fits, next_less, count_last, count_next, count_small, count_fits)
-
-pub ruleset start_laws = (end_most, next_within, next_fits, next_less, start_none, start_next, start_here)
+pub ruleset start_laws = (end_most, next_within, next_fits, start_none, start_next)
 
 pub word_is : (line : List ℕ) (at e : ℕ) (x : List ℕ) → e ≡ at + until 32 (drop at line) → get_or (words_of (drop at line)) 0 [] ≡ x → take (e - at) (drop at line) ≡ x
 word_is line at e x o s =

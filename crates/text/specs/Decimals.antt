@@ -1,6 +1,5 @@
 -- Decimals without leading zeros or -0: read from a word and at a place, and written.
-use Rattle.std.specs.Prelude.{Bool, false, not, ◌&&◌, cond, List, [], ◌∷◌, ℕ, zero, suc, ◌+◌, ◌-◌, ◌/◌, ◌%◌, ◌^◌, leb, ltb, eqb, ℤ, pos, negsuc, take, drop}
-use mathlib.Core.Option.{Option, some, none}
+use Rattle.std.specs.Prelude.{Bool, false, not, ◌&&◌, cond, List, [], ◌∷◌, ℕ, zero, suc, ◌+◌, ◌-◌, ◌/◌, ◌%◌, ◌^◌, leb, ltb, eqb, ℤ, pos, negsuc, take, drop, Option, Some, None}
 use Rattle.text.specs.Digits.{digit_of, all_digits, value_after}
 
 -- ---- read
@@ -12,21 +11,21 @@ is_decimal (b ∷ c ∷ w) = not (eqb b 48) && all_digits 10 (b ∷ c ∷ w)
 
 -- the number that a decimal writes, if it is at most a bound
 unfoldable pub up_to : ℕ → List ℕ → Option ℕ
-up_to most w = let v = value_after 10 0 w in cond (is_decimal w && leb v most) (some v) none
+up_to most w = let v = value_after 10 0 w in cond (is_decimal w && leb v most) (Some v) None
 
 -- the number itself, and after a minus sign, which no 0 has
 abbrev pub plain : Option ℕ → Option ℤ
-plain none = none
-plain (some n) = some (pos n)
+plain None = None
+plain (Some n) = Some (pos n)
 
 abbrev pub negated : Option ℕ → Option ℤ
-negated none = none
-negated (some zero) = none
-negated (some (suc n)) = some (negsuc n)
+negated None = None
+negated (Some zero) = None
+negated (Some (suc n)) = Some (negsuc n)
 
 -- a number from - bound up to bound - 1
 unfoldable pub signed : ℕ → List ℕ → Option ℤ
-signed bound [] = none
+signed bound [] = None
 signed bound (b ∷ w) = cond (eqb b 45) (negated (up_to bound w)) (plain (up_to (bound - 1) (b ∷ w)))
 
 -- THE NUMBER that a word is
@@ -54,8 +53,8 @@ decimal_length [] = 0
 decimal_length (b ∷ w) = cond (eqb b 45) (suc (digit_count w)) (digit_count (b ∷ w))
 
 abbrev pub with_place : ℕ → Option ℤ → Option (ℤ × ℕ)
-with_place next none = none
-with_place next (some z) = some (z, next)
+with_place next None = None
+with_place next (Some z) = Some (z, next)
 
 -- THE NUMBER that stands at a place, up to the next byte that is no digit, and that byte's place
 unfoldable pub decimal_at : List ℕ → ℕ → Option (ℤ × ℕ)

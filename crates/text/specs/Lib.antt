@@ -3,5 +3,4 @@ pub mod Digits
 pub mod Decimals
 pub mod Patterns
 pub mod Puts
-pub mod Answers
 pub mod Inside

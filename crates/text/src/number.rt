@@ -1,44 +1,11 @@
 // Numbers read, each from a word of bytes.
-ghost use Rattle.std.specs.Prelude.{◌≡◌, ◌<◌, ◌≤◌, ◌^◌};
-ghost use Rattle.std.proofs.Math.Option.{some};
+ghost use Rattle.std.specs.Prelude.{◌≡◌, ◌<◌, ◌≤◌, ◌^◌, Some};
 ghost use Rattle.std.specs.Float.Ieee.{of_bits};
 ghost use Rattle.std.specs.Float.{binary64};
 ghost use Rattle.text.specs.Digits.{digit_of};
 ghost use Rattle.text.specs.Decimals.{up_to, negated, signed, u8 as u8Of, u64 as u64Of, i32 as i32Of, i64 as i64Of};
 ghost use Rattle.text.specs.Patterns.{f64 as f64Of};
 ghost use Rattle.text.specs.Inside.Reading.{digits_up_to};
-ghost use Rattle.text.specs.Answers.{said_byte, said_natural, said_integer, said_wide, said_float};
-
-// What reading a word as a number gives; `Unread` where it is none.
-#[derive(Clone, Copy)]
-pub enum ByteWord {
-    Byte(u8),
-    Unread,
-}
-
-#[derive(Clone, Copy)]
-pub enum NaturalWord {
-    Natural(u64),
-    Unread,
-}
-
-#[derive(Clone, Copy)]
-pub enum IntegerWord {
-    Integer(i32),
-    Unread,
-}
-
-#[derive(Clone, Copy)]
-pub enum WideWord {
-    Wide(i64),
-    Unread,
-}
-
-#[derive(Clone, Copy)]
-pub enum FloatWord {
-    Float(f64),
-    Unread,
-}
 
 // What a byte stands for, 0 to 9 and A to F; 16 where it is no digit. The arms become one look into a
 // table: tests would be guessed wrong at every other digit of a pattern.
@@ -67,106 +34,96 @@ pub(crate) fn digit(b: u8) -> u64
 }
 
 // The number that digits of a base write, where it is at most `most`. No digits write 0.
-fn digits(word: &[u8], base: u64, most: u64) -> NaturalWord
+fn digits(word: &[u8], base: u64, most: u64) -> Option<u64>
     requires { 0 < base }
-    ensures { said_natural result ≡ digits_up_to base most 0 word.now }
+    ensures { result ≡ digits_up_to base most 0 word.now }
 {
     // A value above this, with one more digit, is above the most.
     let before = most / base;
     let mut value: u64 = 0;
-    let mut i: usize = 0;
-    while i < word.len() {
-        let d = digit(word[i]);
+    for b in word {
+        let d = digit(*b);
         if d >= base {
-            return NaturalWord::Unread;
+            return None;
         }
         if value > before {
-            return NaturalWord::Unread;
+            return None;
         }
         let shifted = value * base;
         if d > most - shifted {
-            return NaturalWord::Unread;
+            return None;
         }
         value = shifted + d;
-        i += 1;
     }
-    NaturalWord::Natural(value)
+    Some(value)
 }
 
 // A decimal of at most `most`, without leading zeros.
-fn up_to(word: &[u8], most: u64) -> NaturalWord
-    ensures { said_natural result ≡ up_to most word.now }
+fn up_to(word: &[u8], most: u64) -> Option<u64>
+    ensures { result ≡ up_to most word.now }
 {
     if word.len() == 0 {
-        return NaturalWord::Unread;
+        return None;
     }
     if word.len() == 1 {
         return digits(word, 10, most);
     }
     if word[0] == b'0' {
-        return NaturalWord::Unread;
+        return None;
     }
     digits(word, 10, most)
 }
 
-pub fn byte(word: &[u8]) -> ByteWord
-    ensures { said_byte result ≡ u8Of word.now }
+pub fn byte(word: &[u8]) -> Option<u8>
+    ensures { result ≡ u8Of word.now }
 {
-    let NaturalWord::Natural(n) = up_to(word, 255) else {
-        return ByteWord::Unread;
-    };
-    ByteWord::Byte(n as u8)
+    let n = up_to(word, 255)?;
+    Some(n as u8)
 }
 
-pub fn natural(word: &[u8]) -> NaturalWord
-    ensures { said_natural result ≡ u64Of word.now }
+pub fn natural(word: &[u8]) -> Option<u64>
+    ensures { result ≡ u64Of word.now }
 {
     up_to(word, 18446744073709551615)
 }
 
 // 0 less a number that is not 0.
-fn negated(n: u64) -> WideWord
+fn negated(n: u64) -> Option<i64>
     requires { n ≤ 2 ^ 63 }
-    ensures { said_wide result ≡ negated (some n) }
+    ensures { result ≡ negated (Some n) }
 {
     if n == 0 {
-        return WideWord::Unread;
+        return None;
     }
     let less = (n - 1) as i64;
-    WideWord::Wide(-1 - less)
+    Some(-1 - less)
 }
 
 // A minus sign has a number after it that is not 0.
-fn signed(word: &[u8], bound: u64) -> WideWord
+fn signed(word: &[u8], bound: u64) -> Option<i64>
     requires { (0 < bound) × (bound ≤ 2 ^ 63) }
-    ensures { said_wide result ≡ signed bound word.now }
+    ensures { result ≡ signed bound word.now }
 {
     if word.len() == 0 {
-        return WideWord::Unread;
+        return None;
     }
     if word[0] == b'-' {
-        let NaturalWord::Natural(n) = up_to(&word[1..], bound) else {
-            return WideWord::Unread;
-        };
+        let n = up_to(&word[1..], bound)?;
         return negated(n);
     }
-    let NaturalWord::Natural(n) = up_to(word, bound - 1) else {
-        return WideWord::Unread;
-    };
-    WideWord::Wide(n as i64)
+    let n = up_to(word, bound - 1)?;
+    Some(n as i64)
 }
 
-pub fn integer(word: &[u8]) -> IntegerWord
-    ensures { said_integer result ≡ i32Of word.now }
+pub fn integer(word: &[u8]) -> Option<i32>
+    ensures { result ≡ i32Of word.now }
 {
-    let WideWord::Wide(z) = signed(word, 2147483648) else {
-        return IntegerWord::Unread;
-    };
-    IntegerWord::Integer(z as i32)
+    let z = signed(word, 2147483648)?;
+    Some(z as i32)
 }
 
-pub fn wide_integer(word: &[u8]) -> WideWord
-    ensures { said_wide result ≡ i64Of word.now }
+pub fn wide_integer(word: &[u8]) -> Option<i64>
+    ensures { result ≡ i64Of word.now }
 {
     signed(word, 9223372036854775808)
 }
@@ -183,14 +140,12 @@ fn of_pattern(bits: u64) -> f64
 }
 
 // Sixteen hex digits of a pattern.
-pub fn float(word: &[u8]) -> FloatWord
-    ensures { said_float result ≡ f64Of word.now }
+pub fn float(word: &[u8]) -> Option<f64>
+    ensures { result ≡ f64Of word.now }
 {
     if word.len() != 16 {
-        return FloatWord::Unread;
+        return None;
     }
-    let NaturalWord::Natural(bits) = digits(word, 16, 18446744073709551615) else {
-        return FloatWord::Unread;
-    };
-    FloatWord::Float(of_pattern(bits))
+    let bits = digits(word, 16, 18446744073709551615)?;
+    Some(of_pattern(bits))
 }

@@ -1,29 +1,19 @@
 // Decimals read at a place of some bytes, with the place after each.
 ghost use Rattle.std.specs.Prelude.{◌≡◌};
 ghost use Rattle.text.specs.Decimals.{digit_count, decimal_length, decimal_at};
-ghost use Rattle.text.specs.Answers.{said_placed};
 
-use crate::number::{WideWord, digit, wide_integer};
-
-// The number and the place after it; `Unread` where none stands there.
-#[derive(Clone, Copy)]
-pub enum Placed {
-    Decimal(i64, usize),
-    Unread,
-}
+use crate::number::{digit, wide_integer};
 
 // How many digits stand in front.
 fn digit_count(s: &[u8]) -> usize
     ensures { result ≡ digit_count s.now }
 {
-    let mut i: usize = 0;
-    while i < s.len() {
-        if digit(s[i]) >= 10 {
+    for (i, b) in s.iter().enumerate() {
+        if digit(*b) >= 10 {
             return i;
         }
-        i += 1;
     }
-    i
+    s.len()
 }
 
 // The same with a minus sign before them.
@@ -40,16 +30,14 @@ fn decimal_length(s: &[u8]) -> usize
 }
 
 // The number that stands at a place, up to the next byte that is no digit.
-pub fn decimal_at(s: &[u8], at: usize) -> Placed
-    ensures { said_placed result ≡ decimal_at s.now at }
+pub fn decimal_at(s: &[u8], at: usize) -> Option<(i64, usize)>
+    ensures { result ≡ decimal_at s.now at }
 {
     if at > s.len() {
-        return Placed::Unread;
+        return None;
     }
     let rest = &s[at..];
     let n = decimal_length(rest);
-    let WideWord::Wide(z) = wide_integer(&rest[..n]) else {
-        return Placed::Unread;
-    };
-    Placed::Decimal(z, at + n)
+    let z = wide_integer(&rest[..n])?;
+    Some((z, at + n))
 }

@@ -6,19 +6,17 @@ ghost use Rattle.std.proofs.lemmas.List.Edits.{sets};
 ghost use Rattle.text.specs.Decimals.{natural, integer};
 ghost use Rattle.text.specs.Patterns.{pattern};
 ghost use Rattle.text.specs.Puts.{place_after, with_text, Put};
-ghost use Rattle.text.specs.Inside.Putting.{led, lead_length};
+ghost use Rattle.std.specs.Int.{from_bool};
+ghost use Rattle.text.specs.Inside.Putting.{led, lowest};
 
-use crate::digits::{bits_of, natural_length, size, write_digits, write_pattern};
+use crate::digits::{bits_of, natural_length, write_digits};
 
 // The place after so many bytes.
 fn place_after(room: usize, at: usize, size: usize) -> usize
     requires { room < 2 ^ 63 }
     ensures { result ≡ place_after room at size }
 {
-    if at > room {
-        return room + 1;
-    }
-    if size > room - at {
+    if at > room || size > room - at {
         return room + 1;
     }
     at + size
@@ -34,17 +32,6 @@ pub fn put(out: &mut [u8], at: usize, b: u8) -> usize
     out.len() + 1
 }
 
-fn copy(out: &mut [u8], at: usize, text: &[u8])
-    requires { at + length text.now ≤ length out.old }
-    ensures { out.new ≡ with_text out.old at text.now }
-{
-    let mut i: usize = 0;
-    while i < text.len() {
-        out[at + i] = text[i];
-        i += 1;
-    }
-}
-
 pub fn put_bytes(out: &mut [u8], at: usize, text: &[u8]) -> usize
     ensures { Put out.old at text.now out.new result }
 {
@@ -52,19 +39,13 @@ pub fn put_bytes(out: &mut [u8], at: usize, text: &[u8]) -> usize
     if end > out.len() {
         return end;
     }
-    copy(out, at, text);
+    out[at..at + text.len()].copy_from_slice(text);
     end
-}
-
-fn lead_length(lead: bool) -> usize
-    ensures { result ≡ lead_length lead }
-{
-    if lead { 1 } else { 0 }
 }
 
 fn write_lead(out: &mut [u8], at: usize, lead: bool, b: u8) -> usize
     requires { at < length out.old }
-    ensures { (result ≡ at + lead_length lead) × (out.new ≡ sets out.old at (led lead b [])) }
+    ensures { (result ≡ at + from_bool lead) × (out.new ≡ sets out.old at (led lead b [])) }
 {
     if lead {
         out[at] = b;
@@ -73,57 +54,68 @@ fn write_lead(out: &mut [u8], at: usize, lead: bool, b: u8) -> usize
     at
 }
 
-// n in decimal, after a space and a minus sign if they are asked for.
-fn put_digits(out: &mut [u8], at: usize, space: bool, minus: bool, n: u64) -> usize
-    ensures { Put out.old at (led space 32 (led minus 45 (natural n))) out.new result }
+// The `count` lowest digits of n, after a space and a minus sign if they are asked for.
+fn put_digits<const BASE: u64>(
+    out: &mut [u8],
+    at: usize,
+    space: bool,
+    minus: bool,
+    count: usize,
+    n: u64,
+) -> usize
+    requires { (0 < BASE) × (BASE ≤ 16) × (0 < count) × (count ≤ 20) }
+    ensures { Put out.old at (led space 32 (led minus 45 (lowest BASE count n))) out.new result }
 {
-    let size = lead_length(space) + lead_length(minus) + natural_length(n);
-    let end = place_after(out.len(), at, size);
+    let end = place_after(
+        out.len(),
+        at,
+        usize::from(space) + usize::from(minus) + count,
+    );
     if end > out.len() {
         return end;
     }
     let after_space = write_lead(out, at, space, b' ');
-    write_lead(out, after_space, minus, b'-');
-    write_digits(out, end, n);
+    let after_minus = write_lead(out, after_space, minus, b'-');
+    write_digits::<BASE>(out, after_minus, count, n);
     end
+}
+
+fn put_decimal(out: &mut [u8], at: usize, space: bool, minus: bool, n: u64) -> usize
+    ensures { Put out.old at (led space 32 (led minus 45 (natural n))) out.new result }
+{
+    put_digits::<10>(out, at, space, minus, natural_length(n), n)
 }
 
 pub fn put_natural(out: &mut [u8], at: usize, n: u64) -> usize
     ensures { Put out.old at (natural n) out.new result }
 {
-    put_digits(out, at, false, false, n)
+    put_decimal(out, at, false, false, n)
 }
 
 pub fn put_integer(out: &mut [u8], at: usize, z: i64) -> usize
     ensures { Put out.old at (integer z) out.new result }
 {
-    put_digits(out, at, false, z < 0, size(z))
+    put_decimal(out, at, false, z < 0, z.unsigned_abs())
 }
 
 // A space, and then a number.
 pub fn put_next_natural(out: &mut [u8], at: usize, n: u64) -> usize
     ensures { Put out.old at (32 ∷ natural n) out.new result }
 {
-    put_digits(out, at, true, false, n)
+    put_decimal(out, at, true, false, n)
 }
 
 pub fn put_next_integer(out: &mut [u8], at: usize, z: i64) -> usize
     ensures { Put out.old at (32 ∷ integer z) out.new result }
 {
-    put_digits(out, at, true, z < 0, size(z))
+    put_decimal(out, at, true, z < 0, z.unsigned_abs())
 }
 
 // The pattern of a float, after a space if one is asked for.
 fn put_pattern(out: &mut [u8], at: usize, space: bool, x: f64) -> usize
     ensures { Put out.old at (led space 32 (pattern x)) out.new result }
 {
-    let end = place_after(out.len(), at, lead_length(space) + 16);
-    if end > out.len() {
-        return end;
-    }
-    let after_space = write_lead(out, at, space, b' ');
-    write_pattern(out, after_space, bits_of(x));
-    end
+    put_digits::<16>(out, at, space, false, 16, bits_of(x))
 }
 
 pub fn put_float(out: &mut [u8], at: usize, x: f64) -> usize

@@ -6,30 +6,19 @@ ghost use Rattle.text.specs.Words.{until, words_of};
 pub fn place_of(s: &[u8], at: usize, b: u8) -> usize
     ensures { result ≡ at + until b (drop at s.now) }
 {
-    let mut i = at;
-    while i < s.len() {
+    for i in at..s.len() {
         if s[i] == b {
             return i;
         }
-        i += 1;
     }
-    i
+    at.max(s.len())
 }
 
 // How many words a line has, some of them empty where spaces meet; one at least.
 pub fn count(line: &[u8]) -> usize
     ensures { result ≡ length (words_of line.now) }
 {
-    let mut n: usize = 1;
-    let mut at: usize = 0;
-    loop {
-        let e = place_of(line, at, b' ');
-        if e == line.len() {
-            return n;
-        }
-        n += 1;
-        at = e + 1;
-    }
+    1 + line.iter().filter(|b| **b == b' ').count()
 }
 
 // Where word k starts, from 0; the line's end where there is none.
@@ -37,14 +26,12 @@ fn start(line: &[u8], k: usize) -> usize
     ensures { (result ≤ length line.now) × (get_or (words_of (drop result line.now)) 0 [] ≡ get_or (words_of line.now) k []) }
 {
     let mut at: usize = 0;
-    let mut left = k;
-    while left > 0 {
+    for _ in 0..k {
         let e = place_of(line, at, b' ');
         if e == line.len() {
             return e;
         }
         at = e + 1;
-        left -= 1;
     }
     at
 }

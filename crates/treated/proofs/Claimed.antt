@@ -12,6 +12,7 @@ use lib.Dec.{eqb}
 use lib.ListN.{length, take, drop, length-append, take-append-drop, get_or-append}
 use lib.Seq.{get_or_at, append_snoc, length-take-le}
 use borrow.Author.Tests.{eq-eqb, eqb-true, not-false}
+use Rattle.std.specs.Prelude.{Result, Ok, Err}
 use Rattle.triple.specs.Refusals.{Told, told, refused, number_of}
 use Rattle.triple.proofs.RefusalLaws.{never}
 use Rattle.code.specs.declared.Reading.{Reading}
@@ -20,7 +21,6 @@ use Rattle.code.proofs.Canonical.{read_loosely}
 use Rattle.code.proofs.SpareLaws.{loose_sized}
 use Rattle.treated.specs.declared.Fault.{Fault}
 use Rattle.treated.specs.declared.Fault.TheVariants.{Unsound, Marked, Orientation, Overlap}
-use Rattle.treated.specs.declared.Judged.{Judged}
 use Rattle.treated.specs.Treated.{contains, overlaps, strays, judge_of, Verdict, good, faulty, judged, check_from, check_of}
 use Rattle.treated.specs.Claims.{Reads, none, more, code, Claims, Follows, Twice, Good, GoodFront, GoodList, LongList, Breaks, FaultAt}
 use Rattle.treated.proofs.GroundLaws.{contains_meets, overlap_meets, meets_overlap, common_meets, meets_common}
@@ -80,8 +80,8 @@ twice_overlaps (y ∷ before) x s h (suc i) p l c d =
     last false e = e
 
 -- the judgement, by what is known of the three tests
-abbrev flagged : Bool → Bool → Bool → Reading → Judged
-flagged old strayed overlapped x = cond old (Judged.Wrong Marked) (cond strayed (Judged.Wrong Orientation) (cond overlapped (Judged.Wrong Overlap) (Judged.Right x)))
+abbrev flagged : Bool → Bool → Bool → Reading → Result Reading Fault
+flagged old strayed overlapped x = cond old (Err Marked) (cond strayed (Err Orientation) (cond overlapped (Err Overlap) (Ok x)))
 
 judge_flags : (before : List Reading) (x : Reading) {a b c : Bool} → x.old ≡ a → strays before x ≡ b → overlaps before x ≡ c → judge_of before (told x) ≡ flagged a b c x
 unfolding judge_of
@@ -112,7 +112,7 @@ module _ (before : List Reading) (x : Reading) (after : List Reading) where
     pub good_once : (i p : ℕ) → i < length before → Claims (code before i) p → Claims x p → ⊥
     good_once i p h c d = g.once i (length before) p h inside (rw (earlier i h) c) (rw here d)
 
-    pub good_right : Shallow before → x.resolution ≤ 30 → judge_of before (told x) ≡ Judged.Right x
+    pub good_right : Shallow before → x.resolution ≤ 30 → judge_of before (told x) ≡ Ok x
     good_right s h = judge_flags before x good_unmarked ((follows_strays before x).1 good_follows) (apart (overlaps before x) refl)
       where
         apart : (b : Bool) → overlaps before x ≡ b → b ≡ false
@@ -190,11 +190,11 @@ pub long_verdict : (list : List ℕ) → LongList list → check_of list ≡ ref
 unfolding number_of
 long_verdict list l = sym (front_check list l.front (N.le_refl 512)) ∙ check_long l.front.codes l.front.rest l.remain
 
-breaks_wrong : (f : Fault) (codes : List Reading) (rest : List ℕ) → Shallow codes → Breaks f codes rest → judge_of codes (read_of rest) ≡ Judged.Wrong f
+breaks_wrong : (f : Fault) (codes : List Reading) (rest : List ℕ) → Shallow codes → Breaks f codes rest → judge_of codes (read_of rest) ≡ Err f
 unfolding judge_of
 breaks_wrong Unsound codes rest s b = go (read_of rest) refl
   where
-    go : (t : Told Reading) → read_of rest ≡ t → judge_of codes t ≡ Judged.Wrong Unsound
+    go : (t : Told Reading) → read_of rest ≡ t → judge_of codes t ≡ Err Unsound
     go (told x) e = absurd (b x e)
     go (refused n) e = refl
 breaks_wrong Marked codes rest s b = ap (judge_of codes) b.1 ∙ judge_flags codes b.0 b.2 refl refl
@@ -244,7 +244,7 @@ module _ (list : List ℕ) where
     abbrev rest : List ℕ
     rest = b ∷ bytes
 
-    fault : (f : Fault) → judge_of codes (read_of rest) ≡ Judged.Wrong f → Breaks f codes rest → Outcome list (check_from (suc k) codes rest)
+    fault : (f : Fault) → judge_of codes (read_of rest) ≡ Err f → Breaks f codes rest → Outcome list (check_from (suc k) codes rest)
     fault f wrong br =
         breaks f (length codes) (check_wrong k codes rest (omega arith) wrong)
         (record { front = front codes rest reads g; few = omega arith; remain = omega arith; breaks = br })
@@ -347,9 +347,9 @@ module _ (f : Fault) (n : ℕ) where
   behind_suc k later codes [] e = not_faulty e
   behind_suc k later codes (b ∷ bytes) e = by (judge_of codes (read_of (b ∷ bytes))) e
     where
-      by : (j : Judged) → judged j (λ f. told (faulty f (length codes))) (λ x. check_from k (codes ++ (x ∷ [])) (drop x.used (b ∷ bytes))) ≡ told (faulty f n) → length codes ≤ n
-      by (Judged.Wrong g) e = let same : length codes ≡ n = cc in omega arith
-      by (Judged.Right x) e = let l = later (codes ++ (x ∷ [])) (drop x.used (b ∷ bytes)) e in omega (arith, l, length-append codes (x ∷ []))
+      by : (j : Result Reading Fault) → judged j (λ f. told (faulty f (length codes))) (λ x. check_from k (codes ++ (x ∷ [])) (drop x.used (b ∷ bytes))) ≡ told (faulty f n) → length codes ≤ n
+      by (Err g) e = let same : length codes ≡ n = cc in omega arith
+      by (Ok x) e = let l = later (codes ++ (x ∷ [])) (drop x.used (b ∷ bytes)) e in omega (arith, l, length-append codes (x ∷ []))
 
   behind : (k : ℕ) → Behind k
   unfolding check_from

@@ -5,14 +5,15 @@ use Prim.Native.Nat.{ℕ, zero, suc, ◌-◌, ◌*◌, ◌<◌}
 use native.Mathlib.Omega.{arith}
 use lib.ListN.{length, take, drop}
 use lib.Seq.{take-nil}
+use Rattle.std.specs.Prelude.{Result, Ok, Err}
 use Rattle.whole.proofs.Slices.{drop_take}
 use Rattle.triple.specs.Refusals.{Told, told}
 use Rattle.code.specs.declared.Reading.{Reading}
 use Rattle.code.specs.Codes.{read_of}
 use Rattle.code.proofs.FrontLaws.{read_same, read_few}
-use Rattle.treated.specs.declared.Judged.{Judged}
 use Rattle.treated.specs.Treated.{judge_of, faulty, judged, check_from, check_of}
 use Rattle.treated.proofs.JudgeLaws.{right_fine}
+use Rattle.treated.specs.declared.Fault.{Fault}
 
 abbrev Same : ℕ → Type 0
 Same k = (before : List Reading) (rest : List ℕ) (m : ℕ) → 9 * k < m → check_from k before (take m rest) ≡ check_from k before rest
@@ -33,11 +34,11 @@ same_suc k later before (b ∷ bytes) (suc m) h =
     ap (λ (t : Told Reading). judged (judge_of before t) (λ f. told (faulty f (length before))) (λ x. check_from k (before ++ (x ∷ [])) (drop x.used (take (suc m) rest)))) r
     ∙ by (judge_of before (read_of rest)) refl
   where
-    by : (j : Judged) → judge_of before (read_of (b ∷ bytes)) ≡ j
+    by : (j : Result Reading Fault) → judge_of before (read_of (b ∷ bytes)) ≡ j
         → judged j (λ f. told (faulty f (length before))) (λ x. check_from k (before ++ (x ∷ [])) (drop x.used (take (suc m) (b ∷ bytes))))
         ≡ judged j (λ f. told (faulty f (length before))) (λ x. check_from k (before ++ (x ∷ [])) (drop x.used (b ∷ bytes)))
-    by (Judged.Wrong f) e = refl
-    by (Judged.Right x) e =
+    by (Err f) e = refl
+    by (Ok x) e =
         let few = read_few (b ∷ bytes) (right_fine before (read_of (b ∷ bytes)) e).sound in
         ap (check_from k (before ++ (x ∷ []))) (drop_take (suc m) x.used (b ∷ bytes)) ∙ later (before ++ (x ∷ [])) (drop x.used (b ∷ bytes)) (suc m - x.used) (omega (arith, few))
 

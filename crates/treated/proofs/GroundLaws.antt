@@ -18,7 +18,7 @@ use Rattle.whole.proofs.Digits.{four_power}
 use Rattle.whole.proofs.Powers.{four_by_shift}
 use Rattle.code.specs.declared.Reading.{Reading}
 use Rattle.treated.specs.Treated.{contains}
-use Rattle.treated.specs.Inside.Grounds.{beginning, start_of, end_of, meets}
+use Rattle.treated.specs.Inside.Grounds.{beginning, start_of, end_of, ground_of, meets}
 
 -- ---- where a position begins
 pub begins_at : (r s : ℕ) → r ≤ 30 → s ≤ 4 ^ r → s * 2 ^ (2 * (30 - r)) % 18446744073709551616 ≡ beginning r s
@@ -104,8 +104,7 @@ module _ (x y : Reading) (sx : x.resolution ≤ 30) (sy : y.resolution ≤ 30) w
       ]
 
   -- as the code tests it
-  pub overlap_tested : (contains y x || contains x y) ≡ meets (start_of y) (end_of y) (start_of x) (end_of x)
-  unfolding meets
+  pub overlap_tested : (contains y x || contains x y) ≡ meets (ground_of y) (ground_of x)
   overlap_tested =
       same_flags _ _
       (λ e. (let m = overlap_meets e in rw (lt-ltb _ _ m.1) (lt-ltb _ _ m.0)))

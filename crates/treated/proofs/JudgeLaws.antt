@@ -1,114 +1,53 @@
--- The judgement on a code by where the grounds of those before it start and end is the one together with those codes.
+-- The judgement on a code by the grounds of those before it is the one together with those codes.
 use mathlib.Core.Path.{◌≡◌, refl, sym, ap, ap₂, ◌∙◌}
-use mathlib.Core.Bool.{Bool, true, false, not, cond, ◌||◌}
+use mathlib.Core.Bool.{Bool, true, false, cond, ◌||◌}
 use mathlib.Core.List.{List, [], ◌∷◌, ◌++◌, map, map-append}
-use Prim.Native.Nat.{ℕ, zero, suc, ◌+◌, ◌^◌, ◌<◌, ◌≤◌}
-use native.Mathlib.Numerals.{add-one}
+use Prim.Native.Nat.{ℕ, ◌^◌, ◌<◌, ◌≤◌}
 use native.Mathlib.Omega.{arith}
-use lib.Dec.{ltb, eqb}
-use lib.ListN.{length, get_or, drop, length-map}
-use lib.Seq.{drop-cons}
+use lib.Dec.{eqb}
+use lib.ListN.{length, get_or}
 use mir.Syntax.{w8}
 use mir.Val.{Fits}
-use borrow.Author.Tests.{lt-ltb, le-ltb, eqb-true, not-false}
+use borrow.Author.Tests.{eqb-true, not-false}
 use Rattle.triple.specs.declared.refusal.Refusal.{Refusal}
-use Rattle.triple.specs.Refusals.{Told, told, refused}
+use Rattle.triple.specs.Refusals.{Told, told, refused, said}
 use Rattle.triple.specs.Orientations.{curve_place}
 use Rattle.triple.proofs.OrientationLaws.{place_small}
 use Rattle.code.specs.declared.Reading.{Reading}
-use Rattle.code.specs.declared.ReadAnswer.{ReadAnswer}
-use Rattle.code.specs.Answers.{said_read}
 use Rattle.code.specs.Codes.{code_length, reading_of, read_of}
 use Rattle.code.proofs.Canonical.{own_orientation, own_position, loose_spelled, read_loosely}
 use Rattle.code.proofs.SpareLaws.{loose_sized}
 use Rattle.treated.specs.declared.Fault.{Fault}
 use Rattle.treated.specs.declared.Fault.TheVariants.{Unsound, Marked, Orientation, Overlap}
-use Rattle.treated.specs.declared.Judged.{Judged}
 use Rattle.treated.specs.Treated.{overlaps, strays, judge_of}
-use Rattle.treated.specs.Inside.Grounds.{beginning, start_of, end_of, meets, touches, differs, judge_reading, judge_by}
+use Rattle.treated.specs.Inside.Grounds.{ground_of, meets, differs, judge_reading, judge_by}
+use Rattle.treated.specs.declared.Ground.{Ground}
+use Rattle.std.specs.Prelude.{Option, Some, None, Ok, Err, Result}
+use Rattle.std.specs.List.{list_any}
 use Rattle.treated.proofs.GroundLaws.{overlap_tested}
 
--- ---- the tests, from what the code has in hand
-module _ (s e start end : ℕ) where
-  pub meets_near : s < end → ltb start e ≡ meets s e start end
-  unfolding meets
-  meets_near h = rw (lt-ltb s end h)
-
-  pub meets_far : end ≤ s → false ≡ meets s e start end
-  unfolding meets
-  meets_far h = rw (le-ltb s end h)
-
-module _ (own first count : ℕ) where
-  pub differs_some : 0 < count → not (eqb own first) ≡ differs own first count
-  unfolding differs
-  differs_some h = rw (lt-ltb 0 count h)
-
-  pub differs_none : count ≤ 0 → false ≡ differs own first count
-  unfolding differs
-  differs_none h = rw (le-ltb 0 count h)
-
-pub ruleset tests = (meets_near, meets_far, differs_some, differs_none)
-
--- ---- ground after ground: what is left from a place on says what all say
-abbrev pub TouchesFrom : List ℕ → List ℕ → ℕ → ℕ → ℕ → Type 0
-TouchesFrom starts ends start end k = (k ≤ length starts) × (touches (drop k starts) (drop k ends) start end ≡ touches starts ends start end)
-
-module _ (starts ends : List ℕ) (start end : ℕ) where
-  module _ {k : ℕ} (same : length starts ≡ length ends) (so_far : TouchesFrom starts ends start end k) (h : k < length starts) where
-    within_ends : k < length ends
-    within_ends = omega arith
-
-    step : (meets (get_or starts k 0) (get_or ends k 0) start end || touches (drop (k + 1) starts) (drop (k + 1) ends) start end) ≡ touches starts ends start end
-    unfolding touches
-    step =
-        let e = drop-cons starts k 0 h in
-        let f = drop-cons ends k 0 within_ends in
-        rw add-one (ap₂ (λ (a b : List ℕ). touches a b start end) (sym e) (sym f) ∙ so_far.1)
-
-    module _ {b : Bool} (b_is : b ≡ meets (get_or starts k 0) (get_or ends k 0) start end) where
-      pub touches_found : b ≡ true → true ≡ touches starts ends start end
-      touches_found t = ap (λ (m : Bool). m || touches (drop (k + 1) starts) (drop (k + 1) ends) start end) (sym t ∙ b_is) ∙ step
-
-      pub touches_on : b ≡ false → TouchesFrom starts ends start end (k + 1)
-      touches_on t = (omega arith, ap (λ (m : Bool). m || touches (drop (k + 1) starts) (drop (k + 1) ends) start end) (sym t ∙ b_is) ∙ step)
-
-  pub touches_none : {k : ℕ} → TouchesFrom starts ends start end k → length starts ≤ k → false ≡ touches starts ends start end
-  unfolding touches
-  touches_none {k} so_far h = ap (λ (l : List ℕ). touches l (drop k ends) start end) (sym (none starts k h)) ∙ so_far.1
-    where
-      none : (l : List ℕ) (k : ℕ) → length l ≤ k → drop k l ≡ []
-      none [] zero h = refl
-      none [] (suc k) h = refl
-      none (x ∷ l) zero h = let z : ⊥ = omega arith in absurd z
-      none (x ∷ l) (suc k) h = none l k (omega arith)
-
-pub ruleset touching = (touches_found, touches_on, touches_none)
-
 -- ---- a code that reads, by each test
-module _ (o : ℕ) (starts ends : List ℕ) (x : Reading) where
-  pub judged_marked : x.old ≡ true → Judged.Wrong Marked ≡ judge_reading o starts ends x
+module _ (first : Option ℕ) (grounds : List Ground) (x : Reading) where
+  pub judged_marked : x.old ≡ true → Err Marked ≡ judge_reading first grounds x
   unfolding judge_reading
   judged_marked m = rw m
 
-  module _ (new : x.old ≡ false) {d : Bool} (d_is : d ≡ differs x.orientation o (length starts)) where
-    pub judged_strayed : d ≡ true → Judged.Wrong Orientation ≡ judge_reading o starts ends x
+  module _ (new : x.old ≡ false) {d : Bool} (d_is : d ≡ differs x.orientation first) where
+    pub judged_strayed : d ≡ true → Err Orientation ≡ judge_reading first grounds x
     unfolding judge_reading
     judged_strayed t = rw (new, ← d_is, t)
 
-    module _ (same : d ≡ false) {a b : ℕ} (a_is : a ≡ beginning x.resolution x.s) (b_is : b ≡ beginning x.resolution (x.s + 1)) {m : Bool} (m_is : m ≡ touches starts ends a b) where
-      met : touches starts ends (start_of x) (end_of x) ≡ m
-      met = sym (m_is ∙ ap₂ (touches starts ends) a_is (b_is ∙ ap (beginning x.resolution) (add-one x.s)))
+    module _ (same : d ≡ false) {own : Ground} (own_is : own ≡ ground_of x) {m : Bool} (m_is : m ≡ list_any (λ g. meets g own) grounds) where
+      met : list_any (λ g. meets g (ground_of x)) grounds ≡ m
+      met = sym (m_is ∙ ap (λ (o : Ground). list_any (λ g. meets g o) grounds) own_is)
 
-      pub judged_overlap : m ≡ true → Judged.Wrong Overlap ≡ judge_reading o starts ends x
+      pub judged_overlap : m ≡ true → Err Overlap ≡ judge_reading first grounds x
       unfolding judge_reading
       judged_overlap t = rw (new, ← d_is, same, met, t)
 
-      pub judged_right : m ≡ false → Judged.Right x ≡ judge_reading o starts ends x
+      pub judged_right : m ≡ false → Ok x ≡ judge_reading first grounds x
       unfolding judge_reading
       judged_right t = rw (new, ← d_is, same, met, t)
-
-pub behind_within : (r s : ℕ) → s < 4 ^ r → s + 1 ≤ 4 ^ r
-behind_within r s h = omega arith
 
 pub ruleset judging = (judged_marked, judged_strayed, judged_overlap, judged_right)
 
@@ -133,14 +72,14 @@ read_stands rest small {x} e =
       there = omega (arith, z.count, z.whole);
     }
 
-module _ (rest : List ℕ) (o : ℕ) (starts ends : List ℕ) {a : ReadAnswer} (ea : said_read a ≡ read_of rest) where
-  pub judged_unsound : {e : Refusal} → a ≡ ReadAnswer.Refused e → Judged.Wrong Unsound ≡ judge_by o starts ends (read_of rest)
+module _ (rest : List ℕ) (first : Option ℕ) (grounds : List Ground) {a : Result Reading Refusal} (ea : said a ≡ read_of rest) where
+  pub judged_unsound : {e : Refusal} → a ≡ Err e → Err Unsound ≡ judge_by first grounds (read_of rest)
   unfolding judge_by
   judged_unsound m = rw (← ea, m)
 
-  module _ (small : (i : ℕ) → Fits w8 (get_or rest i 0)) (x : Reading) (m : a ≡ ReadAnswer.Read x) where
+  module _ (small : (i : ℕ) → Fits w8 (get_or rest i 0)) (x : Reading) (m : a ≡ Ok x) where
     stands : Stands rest x
-    stands = read_stands rest small (sym ea ∙ ap said_read m)
+    stands = read_stands rest small (sym ea ∙ ap said m)
 
     pub read_shallow : x.resolution ≤ 30
     read_shallow = stands.shallow
@@ -148,7 +87,7 @@ module _ (rest : List ℕ) (o : ℕ) (starts ends : List ℕ) {a : ReadAnswer} (
     pub read_below : x.s < 4 ^ x.resolution
     read_below = stands.below
 
-  pub judged_reading : (x : Reading) → a ≡ ReadAnswer.Read x → {j : Judged} → j ≡ judge_reading o starts ends x → j ≡ judge_by o starts ends (read_of rest)
+  pub judged_reading : (x : Reading) → a ≡ Ok x → {j : Result Reading Fault} → j ≡ judge_reading first grounds x → j ≡ judge_by first grounds (read_of rest)
   unfolding judge_by
   judged_reading x m e = rw (← ea, m) e
 
@@ -159,39 +98,35 @@ abbrev pub Shallow : List Reading → Type 0
 Shallow [] = Unit
 Shallow (y ∷ before) = (y.resolution ≤ 30) × Shallow before
 
--- the first of some codes, if there is one, is of the orientation o
-abbrev pub Heads : ℕ → List Reading → Type 0
-Heads o [] = Unit
-Heads o (y ∷ before) = y.orientation ≡ o
+-- the orientation of the first of some codes, if there is one
+abbrev pub first_of : List Reading → Option ℕ
+first_of [] = None
+first_of (y ∷ before) = Some y.orientation
 
--- what is kept of them
-pub record Kept (before : List Reading) (o : ℕ) (starts ends : List ℕ) : Type 0 where
-  pub starts_are : starts ≡ map start_of before
-  pub ends_are : ends ≡ map end_of before
+-- what is kept of them: of the last orientation, which is the first one's too
+pub record Kept (before : List Reading) (first : Option ℕ) (grounds : List Ground) : Type 0 where
+  pub grounds_are : grounds ≡ map ground_of before
   pub shallow : Shallow before
-  pub first : Heads o before
+  pub first_is : first ≡ first_of before
 
-strays_differs : (before : List Reading) (o : ℕ) (x : Reading) → Heads o before → strays before x ≡ differs x.orientation o (length before)
-unfolding strays differs
-strays_differs [] o x h = refl
-strays_differs (y ∷ before) o x h = rw (h, lt-ltb 0 (suc (length before)) (omega arith))
+strays_differs : (before : List Reading) (x : Reading) → differs x.orientation (first_of before) ≡ strays before x
+unfolding strays
+strays_differs [] x = refl
+strays_differs (y ∷ before) x = refl
 
-overlaps_touches : (before : List Reading) (x : Reading) → Shallow before → x.resolution ≤ 30 → overlaps before x ≡ touches (map start_of before) (map end_of before) (start_of x) (end_of x)
-unfolding overlaps touches
-overlaps_touches [] x s h = refl
-overlaps_touches (y ∷ before) x s h = ap₂ (λ (a b : Bool). a || b) (overlap_tested x y h s.0) (overlaps_touches before x s.1 h)
+overlaps_meets : (before : List Reading) (x : Reading) → Shallow before → x.resolution ≤ 30 → overlaps before x ≡ list_any (λ g. meets g (ground_of x)) (map ground_of before)
+unfolding overlaps
+overlaps_meets [] x s h = refl
+overlaps_meets (y ∷ before) x s h = ap₂ (λ (a b : Bool). a || b) (overlap_tested x y h s.0) (overlaps_meets before x s.1 h)
 
-module _ (before : List Reading) (o : ℕ) (starts ends : List ℕ) (kept : Kept before o starts ends) where
-  counted : length starts ≡ length before
-  counted = ap length kept.starts_are ∙ length-map before start_of
-
-  pub judged_same : (t : Told Reading) → ((x : Reading) → t ≡ told x → x.resolution ≤ 30) → judge_by o starts ends t ≡ judge_of before t
+module _ (before : List Reading) (first : Option ℕ) (grounds : List Ground) (kept : Kept before first grounds) where
+  pub judged_same : (t : Told Reading) → ((x : Reading) → t ≡ told x → x.resolution ≤ 30) → judge_by first grounds t ≡ judge_of before t
   unfolding judge_by judge_of judge_reading
   judged_same (refused n) shallow = refl
   judged_same (told x) shallow =
-      let d : differs x.orientation o (length starts) ≡ strays before x = ap (differs x.orientation o) counted ∙ sym (strays_differs before o x kept.first) in
-      let m : touches starts ends (start_of x) (end_of x) ≡ overlaps before x =
-      ap₂ (λ (a b : List ℕ). touches a b (start_of x) (end_of x)) kept.starts_are kept.ends_are ∙ sym (overlaps_touches before x kept.shallow (shallow x refl)) in
+      let d : differs x.orientation first ≡ strays before x = ap (differs x.orientation) kept.first_is ∙ strays_differs before x in
+      let m : list_any (λ g. meets g (ground_of x)) grounds ≡ overlaps before x =
+      ap (list_any (λ g. meets g (ground_of x))) kept.grounds_are ∙ sym (overlaps_meets before x kept.shallow (shallow x refl)) in
       rw (d, m)
 
 -- ---- what is known of a code that is good together with those before it
@@ -201,16 +136,16 @@ pub record Fine (before : List Reading) (t : Told Reading) (x : Reading) : Type 
   pub oriented : strays before x ≡ false
   pub apart : overlaps before x ≡ false
 
-not_right : {f : Fault} {x : Reading} {A : Type 0} → Judged.Wrong f ≡ Judged.Right x → A
+not_right : {f : Fault} {x : Reading} {A : Type 0} → Err f ≡ Ok x → A
 not_right e = let z : ◌≡◌ {A = ℕ} 0 1 = cc in let none : ⊥ = omega arith in absurd none
 
-pub right_fine : (before : List Reading) (t : Told Reading) {x : Reading} → judge_of before t ≡ Judged.Right x → Fine before t x
+pub right_fine : (before : List Reading) (t : Told Reading) {x : Reading} → judge_of before t ≡ Ok x → Fine before t x
 unfolding judge_of
 right_fine before (refused n) e = not_right e
 right_fine before (told y) {x} e = go y.old (strays before y) (overlaps before y) refl refl refl e
   where
     go : (a b c : Bool) → y.old ≡ a → strays before y ≡ b → overlaps before y ≡ c
-        → cond a (Judged.Wrong Marked) (cond b (Judged.Wrong Orientation) (cond c (Judged.Wrong Overlap) (Judged.Right y))) ≡ Judged.Right x → Fine before (told y) x
+        → cond a (Err Marked) (cond b (Err Orientation) (cond c (Err Overlap) (Ok y))) ≡ Ok x → Fine before (told y) x
     go true b c p q r e = not_right e
     go false true c p q r e = not_right e
     go false false true p q r e = not_right e
@@ -219,21 +154,20 @@ right_fine before (told y) {x} e = go y.old (strays before y) (overlaps before y
         rw (← same) record { sound = refl; unmarked = p; oriented = q; apart = r }
 
 -- and it is kept with them
-heads_next : (before : List Reading) (x : Reading) → strays before x ≡ false → Heads x.orientation (before ++ (x ∷ []))
+first_next : (before : List Reading) (x : Reading) → strays before x ≡ false → Some x.orientation ≡ first_of (before ++ (x ∷ []))
 unfolding strays
-heads_next [] x e = refl
-heads_next (y ∷ before) x e = sym (eqb-true _ _ (not-false (eqb x.orientation y.orientation) e))
+first_next [] x e = refl
+first_next (y ∷ before) x e = ap (λ (o : ℕ). Some o) (eqb-true _ _ (not-false (eqb x.orientation y.orientation) e))
 
 pub shallow_next : (before : List Reading) (x : Reading) → Shallow before → x.resolution ≤ 30 → Shallow (before ++ (x ∷ []))
 shallow_next [] x s h = (h, tt)
 shallow_next (y ∷ before) x s h = (s.0, shallow_next before x s.1 h)
 
-pub kept_next : (before : List Reading) (x : Reading) {o : ℕ} {starts ends : List ℕ} → Kept before o starts ends → x.resolution ≤ 30 → strays before x ≡ false
-    → Kept (before ++ (x ∷ [])) x.orientation (starts ++ (start_of x ∷ [])) (ends ++ (end_of x ∷ []))
+pub kept_next : (before : List Reading) (x : Reading) {first : Option ℕ} {grounds : List Ground} → Kept before first grounds → x.resolution ≤ 30 → strays before x ≡ false
+    → Kept (before ++ (x ∷ [])) (Some x.orientation) (grounds ++ (ground_of x ∷ []))
 kept_next before x kept shallow oriented =
     record {
-      starts_are = ap (λ (l : List ℕ). l ++ (start_of x ∷ [])) kept.starts_are ∙ sym (map-append start_of before (x ∷ []));
-      ends_are = ap (λ (l : List ℕ). l ++ (end_of x ∷ [])) kept.ends_are ∙ sym (map-append end_of before (x ∷ []));
+      grounds_are = ap (λ (l : List Ground). l ++ (ground_of x ∷ [])) kept.grounds_are ∙ sym (map-append ground_of before (x ∷ []));
       shallow = shallow_next before x kept.shallow shallow;
-      first = heads_next before x oriented;
+      first_is = first_next before x oriented;
     }

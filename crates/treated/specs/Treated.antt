@@ -1,12 +1,11 @@
 -- A partner's treated list: codes one after another, each judged together with those before it.
-use Rattle.std.specs.Prelude.{Bool, false, not, cond, ◌&&◌, ◌||◌, List, [], ◌∷◌, ◌++◌, ℕ, zero, suc, ◌-◌, ◌/◌, ◌^◌, leb, eqb, length, drop}
+use Rattle.std.specs.Prelude.{Bool, false, not, cond, ◌&&◌, ◌||◌, List, [], ◌∷◌, ◌++◌, ℕ, zero, suc, ◌-◌, ◌/◌, ◌^◌, leb, eqb, length, drop, Result, Ok, Err}
 use Rattle.triple.specs.declared.refusal.Refusal.TheVariants as Is
 use Rattle.triple.specs.Refusals.{Told, told, refused, number_of}
 use Rattle.code.specs.declared.Reading.{Reading}
 use Rattle.code.specs.Codes.{read_of}
 use Rattle.treated.specs.declared.Fault.{Fault}
 use Rattle.treated.specs.declared.Fault.TheVariants.{Unsound, Marked, Orientation, Overlap}
-use Rattle.treated.specs.declared.Judged.{Judged}
 
 -- ---- one code, taken together with those before it
 -- x's cell equals or contains y's: the position of y begins with the digits of x's
@@ -24,13 +23,13 @@ strays [] x = false
 strays (first ∷ before) x = not (eqb x.orientation first.orientation)
 
 -- THE JUDGEMENT on what the reader answers: the earliest of unsound, marked, orientation, overlap
-unfoldable pub judge_of : List Reading → Told Reading → Judged
-judge_of before (refused n) = Judged.Wrong Unsound
+unfoldable pub judge_of : List Reading → Told Reading → Result Reading Fault
+judge_of before (refused n) = Err Unsound
 judge_of before (told x) =
-    cond x.old (Judged.Wrong Marked)
-    (cond (strays before x) (Judged.Wrong Orientation)
-    (cond (overlaps before x) (Judged.Wrong Overlap)
-    (Judged.Right x)))
+    cond x.old (Err Marked)
+    (cond (strays before x) (Err Orientation)
+    (cond (overlaps before x) (Err Overlap)
+    (Ok x)))
 
 -- ---- the list
 -- how many codes it has, all of them good; or the first that is at fault, by its number from 0
@@ -43,9 +42,9 @@ abbrev pub most_codes : ℕ
 most_codes = 512
 
 -- a fault stops, and a code that is right goes on
-abbrev pub judged : Judged → (Fault → Told Verdict) → (Reading → Told Verdict) → Told Verdict
-judged (Judged.Wrong f) stop goOn = stop f
-judged (Judged.Right x) stop goOn = goOn x
+abbrev pub judged : Result Reading Fault → (Fault → Told Verdict) → (Reading → Told Verdict) → Told Verdict
+judged (Err f) stop goOn = stop f
+judged (Ok x) stop goOn = goOn x
 
 -- what comes of a rest behind some good codes, where n more may come: no byte may be left behind them
 unfoldable pub check_from : ℕ → List Reading → List ℕ → Told Verdict

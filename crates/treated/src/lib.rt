@@ -3,13 +3,14 @@
 // or contains another; else the first code that breaks this is named. What a code says is `code`'s.
 #![tactic(auto)]
 
-ghost use Rattle.std.specs.Prelude.{◌≡◌, ◌-◌, ◌*◌, ◌^◌, ◌<◌, ◌≤◌, length};
+ghost use Rattle.std.specs.Prelude.{◌≡◌, ◌^◌, ◌<◌, ◌≤◌};
+ghost use Rattle.std.specs.List.{list_any};
 ghost use Rattle.code.specs.Codes.{read_of};
 ghost use Rattle.treated.specs.Treated.{check_of};
 ghost use Rattle.treated.specs.Answers.{said_check};
-ghost use Rattle.treated.specs.Inside.Grounds.{beginning, meets, touches, differs, judge_by, judge_reading};
+ghost use Rattle.treated.specs.Inside.Grounds.{beginning, ground_of, meets, differs, judge_by, judge_reading};
 
-use code::{ReadAnswer, Reading};
+use code::Reading;
 use triple::refusal::Refusal;
 
 // Why a code is not good, taken together with those before it; the earliest of these where several hold.
@@ -25,19 +26,27 @@ pub enum Fault {
     Overlap,
 }
 
-// A code that is good, by what it says, or what is at fault with it.
+// Why a list is not good: its first code at fault, by its number from 0; or that it is too long.
 #[derive(Clone, Copy)]
-pub enum Judged {
-    Right(Reading),
-    Wrong(Fault),
-}
-
-// How many codes a good list has; or the first code at fault, by its number from 0.
-#[derive(Clone, Copy)]
-pub enum CheckAnswer {
-    Good(usize),
+pub enum CheckError {
     Faulty(Fault, usize),
     Refused(Refusal),
+}
+
+// Where a cell starts and ends on the curve at resolution 30.
+#[derive(Clone, Copy)]
+struct Ground {
+    start: u64,
+    end: u64,
+}
+
+impl Ground {
+    // Whether it has a position in common with another: each starts before the other's end.
+    fn meets(&self, other: Ground) -> bool
+        ensures { result ≡ meets self.now other }
+    {
+        (self.start < other.end) & (other.start < self.end)
+    }
 }
 
 // The most codes of a list.
@@ -45,76 +54,91 @@ pub const MOST_CODES: usize = 512;
 
 // Checks a list. Of each cell so far it keeps where its ground starts and ends on the curve at resolution
 // 30: all of them are of one orientation, so two overlap where neither ends before the other starts.
-pub fn check(list: &[u8]) -> CheckAnswer
+pub fn check(list: &[u8]) -> Result<usize, CheckError>
     ensures { said_check result ≡ check_of list.now }
 {
-    let mut starts = [0u64; MOST_CODES];
-    let mut ends = [0u64; MOST_CODES];
-    let mut orientation: u8 = 0;
+    let mut grounds = [Ground { start: 0, end: 0 }; MOST_CODES];
+    let mut first = None;
     let mut at = 0;
     let mut n = 0;
+    // Stays a while loop: the place goes on by what each code takes, which no iterator says plainer.
     while at < list.len() {
         if n >= MOST_CODES {
-            return CheckAnswer::Refused(Refusal::Long);
+            return Err(CheckError::Refused(Refusal::Long));
         }
-        let judged = judge(&list[at..], orientation, &starts[..n], &ends[..n]);
+        let judged = judge(&list[at..], first, &grounds[..n]);
         match judged {
-            Judged::Right(x) => {
-                starts[n] = begin(x.resolution, x.s);
-                ends[n] = begin(x.resolution, x.s + 1);
-                orientation = x.orientation;
+            Ok(x) => {
+                grounds[n] = ground_of(x);
+                first = Some(x.orientation);
                 at += x.used;
                 n += 1;
             }
-            Judged::Wrong(f) => {
-                return CheckAnswer::Faulty(f, n);
+            Err(f) => {
+                return Err(CheckError::Faulty(f, n));
             }
         }
     }
-    CheckAnswer::Good(n)
+    Ok(n)
 }
 
-// The code at the front of a rest, by the orientation of those before it and where their grounds start
-// and end.
-fn judge(rest: &[u8], orientation: u8, starts: &[u64], ends: &[u64]) -> Judged
-    requires { length starts.now ≡ length ends.now }
-    ensures { result ≡ judge_by orientation starts.now ends.now (read_of rest.now) }
+// The code at the front of a rest, by the first orientation of those before it, if there are any, and
+// their grounds.
+fn judge(rest: &[u8], first: Option<u8>, grounds: &[Ground]) -> Result<Reading, Fault>
+    ensures { result ≡ judge_by first grounds.now (read_of rest.now) }
 {
-    let seen = code::read(rest);
-    match seen {
-        ReadAnswer::Read(x) => judge_reading(x, orientation, starts, ends),
-        ReadAnswer::Refused(_) => Judged::Wrong(Fault::Unsound),
+    match code::read(rest) {
+        Ok(x) => judge_reading(x, first, grounds),
+        Err(_) => Err(Fault::Unsound),
     }
 }
 
 // The same of a code that reads: its mark, its orientation, and where its own ground lies.
-fn judge_reading(x: Reading, orientation: u8, starts: &[u64], ends: &[u64]) -> Judged
-    requires { (x.resolution ≤ 30) × (x.s < 4 ^ x.resolution) × (length starts.now ≡ length ends.now) }
-    ensures { result ≡ judge_reading orientation starts.now ends.now x }
+fn judge_reading(x: Reading, first: Option<u8>, grounds: &[Ground]) -> Result<Reading, Fault>
+    requires { (x.resolution ≤ 30) × (x.s < 4 ^ x.resolution) }
+    ensures { result ≡ judge_reading first grounds.now x }
 {
-    let strays = differs(x.orientation, orientation, starts.len());
+    let strays = differs(x.orientation, first);
     if x.old {
-        return Judged::Wrong(Fault::Marked);
+        return Err(Fault::Marked);
     }
     if strays {
-        return Judged::Wrong(Fault::Orientation);
+        return Err(Fault::Orientation);
     }
-    let start = begin(x.resolution, x.s);
-    let end = begin(x.resolution, x.s + 1);
-    if touches(starts, ends, start, end) {
-        return Judged::Wrong(Fault::Overlap);
+    let own = ground_of(x);
+    if touches(grounds, own) {
+        return Err(Fault::Overlap);
     }
-    Judged::Right(x)
+    Ok(x)
+}
+
+// Whether one of some grounds meets a ground. All of them are tested: no branch hangs on where one lies.
+fn touches(grounds: &[Ground], own: Ground) -> bool
+    ensures { result ≡ list_any (λ g. meets g own) grounds.now }
+{
+    let mut met = false;
+    for ground in grounds {
+        met |= ground.meets(own);
+    }
+    met
 }
 
 // Whether an orientation is another than that of the first of some codes.
-fn differs(own: u8, first: u8, count: usize) -> bool
-    ensures { result ≡ differs own first count }
+fn differs(own: u8, first: Option<u8>) -> bool
+    ensures { result ≡ differs own first }
 {
-    if count > 0 {
-        return own != first;
+    first.is_some_and(|o| o != own)
+}
+
+// The ground of a code's cell.
+fn ground_of(x: Reading) -> Ground
+    requires { (x.resolution ≤ 30) × (x.s < 4 ^ x.resolution) }
+    ensures { result ≡ ground_of x }
+{
+    Ground {
+        start: begin(x.resolution, x.s),
+        end: begin(x.resolution, x.s + 1),
     }
-    false
 }
 
 // Where a position of a resolution begins at resolution 30. The one behind the last position begins at
@@ -124,29 +148,4 @@ fn begin(resolution: u8, s: u64) -> u64
     ensures { result ≡ beginning resolution s }
 {
     s << (2 * (30 - resolution))
-}
-
-// Whether what starts and ends so meets one of the others.
-fn touches(starts: &[u64], ends: &[u64], start: u64, end: u64) -> bool
-    requires { length starts.now ≡ length ends.now }
-    ensures { result ≡ touches starts.now ends.now start end }
-{
-    let mut k = 0;
-    while k < starts.len() {
-        if meets(starts[k], ends[k], start, end) {
-            return true;
-        }
-        k += 1;
-    }
-    false
-}
-
-// Whether two grounds have a position in common: each starts before the other's end.
-fn meets(other_start: u64, other_end: u64, start: u64, end: u64) -> bool
-    ensures { result ≡ meets other_start other_end start end }
-{
-    if other_start < end {
-        return start < other_end;
-    }
-    false
 }

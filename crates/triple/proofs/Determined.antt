@@ -6,25 +6,22 @@ use Prim.Native.Nat.{ℕ, ◌-◌}
 use lib.Dec.{leb}
 use lib.IntN.{ℤ, pos}
 use lib.ListN.{get_or}
+use Rattle.std.specs.Prelude.{Result, Ok, Err}
 use Rattle.triple.specs.declared.Triple.{Triple}
-use Rattle.triple.specs.declared.ParityAnswer.{ParityAnswer}
-use Rattle.triple.specs.declared.FlavorAnswer.{FlavorAnswer}
-use Rattle.triple.specs.declared.domain.DomainAnswer.{DomainAnswer}
 use Rattle.triple.specs.declared.orientation.Recipe.{Recipe}
 use Rattle.triple.specs.declared.refusal.Refusal.{Refusal}
 use Rattle.triple.specs.declared.refusal.Refusal.TheVariants as Is
-use Rattle.triple.specs.Refusals.{Told, told, refused, number_of}
+use Rattle.triple.specs.Refusals.{Told, told, refused, number_of, said}
 use Rattle.triple.specs.Triples.{sum_of, is_in_bounds, parity_of, flavor_of}
 use Rattle.triple.specs.Domain.{greatest_resolution, domain_of, row_count, position_count}
 use Rattle.triple.specs.Orientations.{recipe_of, place_from}
-use Rattle.triple.specs.Answers.{said_parity, said_flavor, said_domain}
 
-pub one_to_one : {A B : Type 0} (said : A → B) (back : B → A) → ((a : A) → back (said a) ≡ a) → (a b : A) → said a ≡ said b → a ≡ b
-one_to_one said back inverse a b p = sym (inverse a) ∙ ap back p ∙ inverse b
+pub one_to_one : {A B : Type 0} (says : A → B) (back : B → A) → ((a : A) → back (says a) ≡ a) → (a b : A) → says a ≡ says b → a ≡ b
+one_to_one says back inverse a b p = sym (inverse a) ∙ ap back p ∙ inverse b
 
 -- what is to be said then determines the answer
-pub determined : {A B : Type 0} (said : A → B) → ((a b : A) → said a ≡ said b → a ≡ b) → {d : B} (a b : A) → said a ≡ d → said b ≡ d → a ≡ b
-determined said one a b p q = one a b (p ∙ sym q)
+pub determined : {A B : Type 0} (says : A → B) → ((a b : A) → says a ≡ says b → a ≡ b) → {d : B} (a b : A) → says a ≡ d → says b ≡ d → a ≡ b
+determined says one a b p q = one a b (p ∙ sym q)
 
 -- ---- the refusals, from number 1 up
 abbrev pub refusal_of : ℕ → Refusal
@@ -76,26 +73,12 @@ abbrev pub answer_of : {A B : Type 0} → (B → A) → (Refusal → A) → Told
 answer_of value refusal (told v) = value v
 answer_of value refusal (refused n) = refusal (refusal_of n)
 
-parity_back : (a : ParityAnswer) → answer_of ParityAnswer.Parity ParityAnswer.Refused (said_parity a) ≡ a
-parity_back (ParityAnswer.Parity p) = refl
-parity_back (ParityAnswer.Refused e) = ap ParityAnswer.Refused (numbered e)
+said_back : {A : Type 0} (a : Result A Refusal) → answer_of Ok Err (said a) ≡ a
+said_back (Ok v) = refl
+said_back (Err e) = ap Err (numbered e)
 
-flavor_back : (a : FlavorAnswer) → answer_of FlavorAnswer.Flavor FlavorAnswer.Refused (said_flavor a) ≡ a
-flavor_back (FlavorAnswer.Flavor f) = refl
-flavor_back (FlavorAnswer.Refused e) = ap FlavorAnswer.Refused (numbered e)
-
-domain_back : (a : DomainAnswer) → answer_of (λ _. DomainAnswer.In) DomainAnswer.Refused (said_domain a) ≡ a
-domain_back DomainAnswer.In = refl
-domain_back (DomainAnswer.Refused e) = ap DomainAnswer.Refused (numbered e)
-
-pub said_parity_one_to_one : (a b : ParityAnswer) → said_parity a ≡ said_parity b → a ≡ b
-said_parity_one_to_one = one_to_one said_parity (answer_of ParityAnswer.Parity ParityAnswer.Refused) parity_back
-
-pub said_flavor_one_to_one : (a b : FlavorAnswer) → said_flavor a ≡ said_flavor b → a ≡ b
-said_flavor_one_to_one = one_to_one said_flavor (answer_of FlavorAnswer.Flavor FlavorAnswer.Refused) flavor_back
-
-pub said_domain_one_to_one : (a b : DomainAnswer) → said_domain a ≡ said_domain b → a ≡ b
-said_domain_one_to_one = one_to_one said_domain (answer_of (λ _. DomainAnswer.In) DomainAnswer.Refused) domain_back
+pub said_one_to_one : {A : Type 0} (a b : Result A Refusal) → said a ≡ said b → a ≡ b
+said_one_to_one = one_to_one said (answer_of Ok Err) said_back
 
 -- ---- the operations
 pub new_determined : (x y z : ℤ) (t u : Triple) → t ≡ record { x = x; y = y; z = z } → u ≡ record { x = x; y = y; z = z } → t ≡ u
@@ -104,18 +87,18 @@ new_determined x y z t u p q = p ∙ sym q
 pub sum_determined : (t : Triple) (s u : ℤ) → s ≡ sum_of t → u ≡ sum_of t → s ≡ u
 sum_determined t s u p q = p ∙ sym q
 
-pub parity_determined : (t : Triple) (a b : ParityAnswer) → said_parity a ≡ parity_of t → said_parity b ≡ parity_of t → a ≡ b
-parity_determined t = determined said_parity said_parity_one_to_one
+pub parity_determined : (t : Triple) (a b : Result ℕ Refusal) → said a ≡ parity_of t → said b ≡ parity_of t → a ≡ b
+parity_determined t = determined said said_one_to_one
 
 -- of `in_bounds`, and of `in_bounds_wide` at the triple of its numbers
 pub in_bounds_determined : (r : ℕ) (t : Triple) (a b : Bool) → a ≡ (leb r greatest_resolution && is_in_bounds r t) → b ≡ (leb r greatest_resolution && is_in_bounds r t) → a ≡ b
 in_bounds_determined r t a b p q = p ∙ sym q
 
-pub flavor_determined : (r : ℕ) (t : Triple) (a b : FlavorAnswer) → said_flavor a ≡ flavor_of r t → said_flavor b ≡ flavor_of r t → a ≡ b
-flavor_determined r t = determined said_flavor said_flavor_one_to_one
+pub flavor_determined : (r : ℕ) (t : Triple) (a b : Result ℕ Refusal) → said a ≡ flavor_of r t → said b ≡ flavor_of r t → a ≡ b
+flavor_determined r t = determined said said_one_to_one
 
-pub domain_determined : (o r : ℕ) (a b : DomainAnswer) → said_domain a ≡ domain_of o r → said_domain b ≡ domain_of o r → a ≡ b
-domain_determined o r = determined said_domain said_domain_one_to_one
+pub domain_determined : (o r : ℕ) (a b : Result Unit Refusal) → said a ≡ domain_of o r → said b ≡ domain_of o r → a ≡ b
+domain_determined o r = determined said said_one_to_one
 
 pub row_count_determined : (r : ℕ) (m n : ℤ) → m ≡ pos (row_count r) → n ≡ pos (row_count r) → m ≡ n
 row_count_determined r m n p q = p ∙ sym q

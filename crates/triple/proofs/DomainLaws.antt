@@ -11,13 +11,12 @@ use lib.Pow.{pow_mono, pow-lt, shl_exact}
 use mir.Syntax.{w64}
 use mir.Val.{SFits, to_z}
 use mir.ValLaws.{to_z_pos}
+use Rattle.std.specs.Prelude.{Result, Ok, Err}
 use Rattle.whole.proofs.Powers.{four_by_shift}
 use Rattle.whole.proofs.View.{View, v_upto, v_same, fits}
-use Rattle.triple.specs.declared.domain.DomainAnswer.{DomainAnswer}
 use Rattle.triple.specs.declared.refusal.Refusal.{Refusal}
 use Rattle.triple.specs.declared.refusal.Refusal.TheVariants as Is
-use Rattle.triple.specs.Refusals.{Told, told, refused, refuse, number_of}
-use Rattle.triple.specs.Answers.{said_domain}
+use Rattle.triple.specs.Refusals.{Told, told, refused, refuse, number_of, said}
 use Rattle.triple.specs.Domain.{in_domain, domain_of, row_count, position_count}
 
 -- ---- the two tests, one after the other
@@ -34,22 +33,22 @@ module _ {A : Type 0} (o r : ℕ) (next : Told A) where
 pub ruleset domains = (domain_deep, domain_unoriented, domain_in)
 
 -- ---- what an operation that made them knows
-by_tests : {A : Type 0} (deep unoriented : Bool) (next : Told A) (a : DomainAnswer) → said_domain a ≡ refuse deep Is.Resolution (refuse unoriented Is.Orientation (told tt))
-    → {e : Refusal} → a ≡ DomainAnswer.Refused e → refused (number_of e) ≡ refuse deep Is.Resolution (refuse unoriented Is.Orientation next)
-by_tests true unoriented next a ea m = let e = sym (ap said_domain m) ∙ ea in cc
-by_tests false true next a ea m = let e = sym (ap said_domain m) ∙ ea in cc
-by_tests false false next a ea m = let e = sym (ap said_domain m) ∙ ea in cc
+by_tests : {A : Type 0} (deep unoriented : Bool) (next : Told A) (a : Result Unit Refusal) → said a ≡ refuse deep Is.Resolution (refuse unoriented Is.Orientation (told tt))
+    → {e : Refusal} → a ≡ Err e → refused (number_of e) ≡ refuse deep Is.Resolution (refuse unoriented Is.Orientation next)
+by_tests true unoriented next a ea m = let e = sym (ap said m) ∙ ea in cc
+by_tests false true next a ea m = let e = sym (ap said m) ∙ ea in cc
+by_tests false false next a ea m = let e = sym (ap said m) ∙ ea in cc
 
-neither : (deep unoriented : Bool) (a : DomainAnswer) → said_domain a ≡ refuse deep Is.Resolution (refuse unoriented Is.Orientation (told tt)) → a ≡ DomainAnswer.In → (deep ≡ false) × (unoriented ≡ false)
-neither true unoriented a ea m = let e = sym (ap said_domain m) ∙ ea in (cc, cc)
-neither false true a ea m = let e = sym (ap said_domain m) ∙ ea in (cc, cc)
+neither : (deep unoriented : Bool) (a : Result Unit Refusal) → said a ≡ refuse deep Is.Resolution (refuse unoriented Is.Orientation (told tt)) → a ≡ (Ok tt) → (deep ≡ false) × (unoriented ≡ false)
+neither true unoriented a ea m = let e = sym (ap said m) ∙ ea in (cc, cc)
+neither false true a ea m = let e = sym (ap said m) ∙ ea in (cc, cc)
 neither false false a ea m = (refl, refl)
 
-module _ (o r : ℕ) (a : DomainAnswer) (ea : said_domain a ≡ domain_of o r) where
-  pub out_of_domain : {A : Type 0} (next : Told A) {e : Refusal} → a ≡ DomainAnswer.Refused e → refused (number_of e) ≡ in_domain o r next
+module _ (o r : ℕ) (a : Result Unit Refusal) (ea : said a ≡ domain_of o r) where
+  pub out_of_domain : {A : Type 0} (next : Told A) {e : Refusal} → a ≡ Err e → refused (number_of e) ≡ in_domain o r next
   out_of_domain next m = by_tests (ltb 30 r) (ltb 5 o) next a ea m
 
-  module _ (m : a ≡ DomainAnswer.In) where
+  module _ (m : a ≡ (Ok tt)) where
     pub shallow : r ≤ 30
     shallow = ltb-false 30 r (neither (ltb 30 r) (ltb 5 o) a ea m).0
 

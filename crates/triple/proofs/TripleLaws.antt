@@ -6,22 +6,22 @@ use Prim.Native.Nat.{ℕ, ◌+◌, ◌-◌, ◌*◌, ◌%◌, ◌^◌, ◌<◌, 
 use native.Mathlib.Omega.{arith}
 use lib.Dec.{T, leb}
 use lib.IntN.{ℤ, pos, negsuc, ◌+ℤ◌, nat_abs}
-use lib.Signed.{lt_z, non_neg}
+use lib.Signed.{lt_z, le_z, non_neg}
 use mir.Syntax.{w8, w32, w64}
 use mir.Val.{SFits, Fits}
 use mir.ValLaws.{to_z-of_z}
 use borrow.Author.Tests.{lt-ltb, le-ltb, le-leb, lt-leb, not-true, not-false}
+use Rattle.std.specs.Prelude.{Result, Ok, Err}
 use Rattle.whole.specs.Tests.{Test, ◌≤?◌}
 use Rattle.whole.proofs.TestLaws.{Hold, true_pass, false_pass, pass_true}
 use Rattle.whole.proofs.Parts.{up, dn, orders, add_parts}
-use Rattle.whole.proofs.View.{View, rd, v_var, v_pos, v_upto, v_add, v_neg, v_same, v_in, v_bits, v_fit, v_most, eq_by, le_by, fits_by, fits_of, fact_of, lt_true, lt_false, nat_is, to_nat}
+use Rattle.whole.proofs.View.{View, rd, v_var, v_pos, v_upto, v_add, v_neg, v_same, v_in, v_bits, v_fit, v_most, eq_by, le_by, fits_by, fits_of, fact_of, lt_true, lt_false, le_true, le_false, nat_is, to_nat}
 use Rattle.triple.specs.declared.Triple.{Triple}
-use Rattle.triple.specs.declared.ParityAnswer.{ParityAnswer}
 use Rattle.triple.specs.declared.refusal.Refusal.{Refusal}
 use Rattle.triple.specs.declared.refusal.Refusal.TheVariants.{Resolution, Sum, Bounds}
-use Rattle.triple.specs.Refusals.{Told, told, refused, refuse, number_of}
+use Rattle.triple.specs.Refusals.{Told, told, refused, refuse, number_of, said}
+use Rattle.triple.proofs.RefusalLaws.{refused_same}
 use Rattle.triple.specs.Triples.{sum_of, good_sum, max_row, bounds, is_in_bounds, parity_of, color_of, closed_flavor, flavor_of}
-use Rattle.triple.specs.Answers.{said_parity}
 use Rattle.triple.proofs.DomainLaws.{rows_most}
 
 -- ---- what a test of two numbers tells, by their views
@@ -148,23 +148,24 @@ module _ (r : ℕ) (x y z : ℤ) (fx : SFits w64 x) (fy : SFits w64 y) (fz : SFi
       abbrev v_sum : View (read sum)
       v_sum = v_in (mixed_fits xy z fxy fz hxy hz) (v_add v_xy (v_read z fz))
 
-      pub sum_below : lt_z (read sum) (pos 0) ≡ true → Answers false r (triple x y z)
-      sum_below e = outside r x y z (λ i. omega (arith, less v_sum (v_pos 0) tt e))
+      pub sum_below : le_z (pos 0) (read sum) ≡ false → Answers (le_z (pos 0) (read sum)) r (triple x y z)
+      sum_below e = e ∙ outside r x y z (λ i. omega (arith, fact_of (le_false (pos 0) (read sum) e) v_sum (v_pos 0) tt))
 
-      pub sum_above : lt_z (pos 1) (read sum) ≡ true → Answers false r (triple x y z)
-      sum_above e = outside r x y z (λ i. omega (arith, less (v_pos 1) v_sum tt e))
+      pub all_within : r ≤ 30 → {m : ℤ} → m ≡ max_row r → lt_z (read m) (read y) ≡ false → le_z (pos 0) (read sum) ≡ true → Answers (le_z (read sum) (pos 1)) r (triple x y z)
+      all_within h em hm low = go (le_z (read sum) (pos 1)) refl
+        where
+          go : (f : Bool) → le_z (read sum) (pos 1) ≡ f → Answers f r (triple x y z)
+          go true e =
+              let y_least = not_less (v_read y fy) (v_pos 0) tt hy in
+              let y_most = not_less (v_last h em) (v_read y fy) tt hm in
+              let x_most = not_less (v_pos 0) (v_read x fx) tt hx in
+              let z_most = not_less (v_pos 0) (v_read z fz) tt hz in
+              let sum_least = fact_of (le_true (pos 0) (read sum) low) (v_pos 0) v_sum tt in
+              let sum_most = fact_of (le_true (read sum) (pos 1) e) v_sum (v_pos 1) tt in
+              inside r x y z h (omega arith)
+          go false e = outside r x y z (λ i. omega (arith, fact_of (le_false (read sum) (pos 1) e) (v_pos 1) v_sum tt))
 
-      pub all_within : r ≤ 30 → {m : ℤ} → m ≡ max_row r → lt_z (read m) (read y) ≡ false → lt_z (read sum) (pos 0) ≡ false → lt_z (pos 1) (read sum) ≡ false → Answers true r (triple x y z)
-      all_within h em hm low high =
-          let y_least = not_less (v_read y fy) (v_pos 0) tt hy in
-          let y_most = not_less (v_last h em) (v_read y fy) tt hm in
-          let x_most = not_less (v_pos 0) (v_read x fx) tt hx in
-          let z_most = not_less (v_pos 0) (v_read z fz) tt hz in
-          let sum_least = not_less v_sum (v_pos 0) tt low in
-          let sum_most = not_less (v_pos 1) v_sum tt high in
-          inside r x y z h (omega arith)
-
-pub ruleset wide_bounds = (mixed_fits, resolution_above, x_above, z_above, y_below, y_above, xy_below, sum_below, sum_above, all_within)
+pub ruleset wide_bounds = (mixed_fits, resolution_above, x_above, z_above, y_below, y_above, xy_below, sum_below, all_within)
 
 -- ---- three i32, as `in_bounds` hands them on
 widened : (x : ℤ) → SFits w32 x → read (rd w32 x) ≡ x
@@ -230,9 +231,9 @@ parity_is : (good : Bool) (p k : ℕ) → told p ≡ refuse (not good) Sum (told
 parity_is true p k e = (refl, (cc))
 parity_is false p k e = let z : ◌≡◌ {A = ℕ} 0 1 = cc in absurd (omega arith)
 
-parity_none : (good : Bool) (n k : ℕ) → refused n ≡ refuse (not good) Sum (told k) → good ≡ false
+parity_none : (good : Bool) (n k : ℕ) → refused n ≡ refuse (not good) Sum (told k) → (good ≡ false) × (n ≡ number_of Sum)
 parity_none true n k e = let z : ◌≡◌ {A = ℕ} 0 1 = cc in absurd (omega arith)
-parity_none false n k e = refl
+parity_none false n k e = (refl, refused_same e)
 
 abbrev by_tests : Bool → Bool → Bool → ℕ → Told ℕ
 by_tests far good in_bounds f = refuse far Resolution (refuse (not good) Sum (refuse (not in_bounds) Bounds (told f)))
@@ -242,17 +243,17 @@ module _ (r : ℕ) (t : Triple) where
   unfolding flavor_of
   flavor_far h = simp (lt-ltb 30 r h)
 
-  module _ (h : r ≤ 30) (a : ParityAnswer) (ea : said_parity a ≡ parity_of t) where
-    pub flavor_no_sum : {e : Refusal} → a ≡ ParityAnswer.Refused e → refused (number_of Sum) ≡ flavor_of r t
+  module _ (h : r ≤ 30) (a : Result ℕ Refusal) (ea : said a ≡ parity_of t) where
+    pub flavor_no_sum : {e : Refusal} → a ≡ Err e → refused (number_of e) ≡ flavor_of r t
     unfolding flavor_of parity_of
     flavor_no_sum m =
-        let bad = parity_none (good_sum t) _ _ (ap said_parity (sym m) ∙ ea) in
-        λ i. by_tests (sym (le-ltb 30 r h) i) (sym bad i) (is_in_bounds r t) (closed_flavor r t)
+        let bad = parity_none (good_sum t) _ _ (ap said (sym m) ∙ ea) in
+        ap refused bad.1 ∙ (λ i. by_tests (sym (le-ltb 30 r h) i) (sym bad.0 i) (is_in_bounds r t) (closed_flavor r t))
 
-    module _ {p : ℕ} (m : a ≡ ParityAnswer.Parity p) where
+    module _ {p : ℕ} (m : a ≡ Ok p) where
       sum_is : (good_sum t ≡ true) × (p ≡ nat_abs (sum_of t))
       unfolding parity_of
-      sum_is = parity_is (good_sum t) _ _ (ap said_parity (sym m) ∙ ea)
+      sum_is = parity_is (good_sum t) _ _ (ap said (sym m) ∙ ea)
 
       parity_small : p < 2
       unfolding up dn

@@ -3,4 +3,3 @@ pub mod Lent
 pub mod Domain
 pub mod Orientations
 pub mod Triples
-pub mod Answers

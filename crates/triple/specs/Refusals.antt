@@ -1,5 +1,5 @@
 -- What a call gives: its values, or a refusal's number. The numbers, by the refusals' names.
-use Rattle.std.specs.Prelude.{Bool, true, false, ℕ}
+use Rattle.std.specs.Prelude.{Result, Ok, Err, Bool, true, false, ℕ}
 use Rattle.triple.specs.declared.refusal.Refusal.{Refusal}
 use Rattle.triple.specs.declared.refusal.Refusal.TheVariants as Is
 
@@ -37,6 +37,11 @@ number_of Is.Part = 26
 number_of Is.Polygon = 27
 number_of Is.Retired = 28
 number_of Is.Long = 29
+
+-- what an answer of the code says
+abbrev pub said : {A : Type 0} → Result A Refusal → Told A
+said (Ok a) = told a
+said (Err e) = refused (number_of e)
 
 -- refused by e where the test holds; else what comes after it
 abbrev pub refuse : {A : Type 0} → Bool → Refusal → Told A → Told A

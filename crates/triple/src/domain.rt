@@ -2,29 +2,23 @@
 // positions; at a resolution that there is not, none.
 ghost use Rattle.std.specs.Prelude.{◌≡◌, pos};
 ghost use Rattle.triple.specs.Domain.{domain_of, row_count, position_count};
-ghost use Rattle.triple.specs.Answers.{said_domain};
+ghost use Rattle.triple.specs.Refusals.{said};
 
 use crate::Triple;
 use crate::orientation::GREATEST_ORIENTATION;
 use crate::refusal::Refusal;
 
-#[derive(Clone, Copy)]
-pub enum DomainAnswer {
-    In,
-    Refused(Refusal),
-}
-
 // The two tests that come first in every operation on an orientation and a resolution.
-pub fn domain_of(orientation: u8, resolution: u8) -> DomainAnswer
-    ensures { said_domain result ≡ domain_of orientation resolution }
+pub fn domain_of(orientation: u8, resolution: u8) -> Result<(), Refusal>
+    ensures { said result ≡ domain_of orientation resolution }
 {
     if resolution > Triple::GREATEST_RESOLUTION {
-        return DomainAnswer::Refused(Refusal::Resolution);
+        return Err(Refusal::Resolution);
     }
     if orientation > GREATEST_ORIENTATION {
-        return DomainAnswer::Refused(Refusal::Orientation);
+        return Err(Refusal::Orientation);
     }
-    DomainAnswer::In
+    Ok(())
 }
 
 pub fn row_count(resolution: u8) -> i64

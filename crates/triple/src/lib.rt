@@ -7,7 +7,7 @@
 ghost use Rattle.std.specs.Prelude.{◌≡◌, ◌&&◌, ◌≤◌, leb};
 ghost use Rattle.triple.specs.Domain.{greatest_resolution};
 ghost use Rattle.triple.specs.Triples.{sum_of, max_row, is_in_bounds, parity_of, color_of, flavor_of};
-ghost use Rattle.triple.specs.Answers.{said_parity, said_flavor};
+ghost use Rattle.triple.specs.Refusals.{said};
 
 use domain::row_count;
 use refusal::Refusal;
@@ -23,18 +23,6 @@ pub struct Triple {
     pub x: i32,
     pub y: i32,
     pub z: i32,
-}
-
-#[derive(Clone, Copy)]
-pub enum ParityAnswer {
-    Parity(u8),
-    Refused(Refusal),
-}
-
-#[derive(Clone, Copy)]
-pub enum FlavorAnswer {
-    Flavor(u8),
-    Refused(Refusal),
 }
 
 impl Triple {
@@ -54,17 +42,14 @@ impl Triple {
     }
 
     // The sum, where it is 0 or 1.
-    pub fn parity(self) -> ParityAnswer
-        ensures { said_parity result ≡ parity_of self }
+    pub fn parity(self) -> Result<u8, Refusal>
+        ensures { said result ≡ parity_of self }
     {
         let s = self.sum();
-        if s < 0 {
-            return ParityAnswer::Refused(Refusal::Sum);
+        if s < 0 || s > 1 {
+            return Err(Refusal::Sum);
         }
-        if s > 1 {
-            return ParityAnswer::Refused(Refusal::Sum);
-        }
-        ParityAnswer::Parity(s as u8)
+        Ok(s as u8)
     }
 
     // Whether the triple names a cell at a resolution; there is none above the greatest.
@@ -75,20 +60,17 @@ impl Triple {
     }
 
     // The pentagon flavor of a cell, by the closed formula.
-    pub fn flavor(self, resolution: u8) -> FlavorAnswer
-        ensures { said_flavor result ≡ flavor_of resolution self }
+    pub fn flavor(self, resolution: u8) -> Result<u8, Refusal>
+        ensures { said result ≡ flavor_of resolution self }
     {
         if resolution > Self::GREATEST_RESOLUTION {
-            return FlavorAnswer::Refused(Refusal::Resolution);
+            return Err(Refusal::Resolution);
         }
-        let parity = self.parity();
-        let ParityAnswer::Parity(p) = parity else {
-            return FlavorAnswer::Refused(Refusal::Sum);
-        };
+        let p = self.parity()?;
         if !self.in_bounds(resolution) {
-            return FlavorAnswer::Refused(Refusal::Bounds);
+            return Err(Refusal::Bounds);
         }
-        FlavorAnswer::Flavor(p + 2 * color(self, resolution))
+        Ok(p + 2 * color(self, resolution))
     }
 }
 
@@ -98,19 +80,12 @@ impl Triple {
 pub fn in_bounds_wide(x: i64, y: i64, z: i64, resolution: u8) -> bool
     ensures { result ≡ (leb resolution greatest_resolution && is_in_bounds resolution (record { x = x; y = y; z = z })) }
 {
-    if resolution > Triple::GREATEST_RESOLUTION {
-        return false;
-    }
-    if x > 0 {
-        return false;
-    }
-    if z > 0 {
-        return false;
-    }
-    if y < 0 {
-        return false;
-    }
-    if y > max_row(resolution) {
+    if resolution > Triple::GREATEST_RESOLUTION
+        || x > 0
+        || z > 0
+        || y < 0
+        || y > max_row(resolution)
+    {
         return false;
     }
     let xy = y + x;
@@ -118,13 +93,7 @@ pub fn in_bounds_wide(x: i64, y: i64, z: i64, resolution: u8) -> bool
         return false;
     }
     let sum = xy + z;
-    if sum < 0 {
-        return false;
-    }
-    if sum > 1 {
-        return false;
-    }
-    true
+    sum >= 0 && sum <= 1
 }
 
 fn max_row(resolution: u8) -> i64

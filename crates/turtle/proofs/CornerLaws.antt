@@ -2,28 +2,35 @@
 use native.Mathlib.Omega.{arith}
 use mathlib.Core.Path.{◌≡◌, refl, sym, ap, ◌∙◌, subst}
 use mathlib.Core.Logic.{◌⊎◌, inl, inr, ⊎_elim}
-use mathlib.Core.Bool.{Bool, true, false, not, ◌&&◌, true≢false}
+use mathlib.Core.Bool.{Bool, true, false, not, ◌&&◌, cond, true≢false}
 use mathlib.Core.List.{List, [], ◌∷◌}
 use Prim.Native.Nat.{ℕ, ◌≤◌, ◌<◌, ◌*◌, ◌^◌}
 use borrow.Author.Tests.{not-true, not-false}
-use lib.IntN.{ℤ, pos, negsuc, ◌+ℤ◌, ◌-ℤ◌}
+use lib.IntN.{ℤ, pos, negsuc, ◌+ℤ◌, ◌-ℤ◌, nat_abs}
 use lib.Signed.{◌≤ℤ◌, le_z, mag, quot_z}
-use mir.Syntax.{w64}
-use mir.Val.{to_z, of_z}
+use mir.Syntax.{w32, w64}
+use mir.Val.{SFits, to_z, of_z}
 use mir.ValLaws.{to_z-of_z}
 use Rattle.whole.specs.Tests.{Test, ◌≤?◌, pass}
 use Rattle.whole.proofs.TestLaws.{Hold, true_pass, false_pass, pass_true}
 use Rattle.whole.proofs.Parts.{zero_or_one}
-use Rattle.whole.proofs.View.{View, view, v_var, v_within, le_of, le_by, eq_of, eq_by}
+use Rattle.std.specs.Prelude.{Option, Some, None, Result, Ok, Err}
+use Rattle.std.specs.Result.{OkIff, result_ok}
+use Rattle.std.specs.Option.{ok_or}
+use Rattle.std.specs.Ordering.{int_eq}
+use Rattle.std.proofs.lemmas.Bool.Decides.{Decides-int_eq}
+use Rattle.whole.proofs.Bools.{both_true}
+use Rattle.whole.proofs.View.{View, view, v_var, v_within, v_fit32, le_of, le_by, eq_of, eq_by}
 use Rattle.triple.specs.declared.Triple.{Triple}
 use Rattle.triple.specs.declared.refusal.Refusal.TheVariants.{Sum, Pair}
-use Rattle.triple.specs.Refusals.{told, refused, number_of}
-use Rattle.triple.specs.Triples.{sum_of, good_sum}
+use Rattle.triple.specs.declared.refusal.Refusal.{Refusal}
+use Rattle.triple.specs.Refusals.{told, refused, said, refuse, number_of}
+use Rattle.triple.specs.Triples.{sum_of, good_sum, parity_of}
 use Rattle.turtle.specs.declared.AB.{AB}
-use Rattle.turtle.specs.declared.corner.Wide.{Wide}
 use Rattle.turtle.specs.Plane.{far}
 use Rattle.turtle.specs.Inside.Sizes.{Within}
 use Rattle.turtle.specs.Corners.{corner_sum, corner_sum_of, candidate, has_corner_sum, fits32, same, triple_of, FitsI32, ThreeI32, HasTriple}
+use Rattle.turtle.specs.Inside.Candidates.{narrowed, with_sum}
 use Rattle.turtle.proofs.LimitLaws.{far_false}
 
 -- ---- the flag that a comparison gives is the one to return
@@ -37,10 +44,6 @@ triple x y z = record { x = x; y = y; z = z }
 
 pub pair_is : {p q : AB} → p.a ≡ q.a → p.b ≡ q.b → p ≡ q
 pair_is f g = λ i. record { a = f i; b = g i }
-
--- the triple with the coordinates of a wide one
-abbrev pub wide : Wide → Triple
-wide w = triple w.x w.y w.z
 
 pub triple_is : {t u : Triple} → t.x ≡ u.x → t.y ≡ u.y → t.z ≡ u.z → t ≡ u
 triple_is f g h = λ i. record { x = f i; y = g i; z = h i }
@@ -91,6 +94,48 @@ module _ (x y z : ℤ) (f : Bool) (mx : mag x < 2 ^ 63) (ef : f ≡ pass (fits32
     pub wide_z : (h : Bool) → mag z < 2 ^ 63 → h ≡ pass (fits32 (to_z w64 (of_z w64 z)) []) → not g ≡ false → h ≡ pass (fits32 x (fits32 y (fits32 z [])))
     wide_z h mz eh m = read z h mz eh ∙ sym (split x (fits32 y (fits32 z [])) ∙ rw (← read x f mx ef, not-false f n) (split y (fits32 z []) ∙ rw (← read y g my eg, not-false g m)))
 
+-- a coordinate that was read as an i32 is one, and itself
+pub coordinate : {E : Type 0} (x v : ℤ) (r : Result ℤ E) (o : Option ℤ) → mag x < 2 ^ 63 → OkIff r (SFits w32 (to_z w64 (of_z w64 x))) (to_z w64 (of_z w64 x)) → o ≡ result_ok r → o ≡ Some v → SFits w32 x × (v ≡ x)
+coordinate x v (Ok y) o m h e f =
+    let k : to_z w64 (of_z w64 x) ≡ x = to_z-of_z w64 x (record { sfits = m }) in
+    let same : y ≡ v = cc in
+    (rw k at h.0, sym same ∙ h.1 ∙ k)
+coordinate x v (Err y) o m h e f = let z : ◌≡◌ {A = ℕ} 0 1 = cc in absurd (omega arith)
+
+is_i32 : (x : ℤ) → SFits w32 x → FitsI32 x
+is_i32 x f =
+    let v = v_fit32 x f in
+    let h = v.is tt in
+    record { low = le_by (search view) v tt (omega arith); high = le_by v (search view) tt (omega arith) }
+
+module _ (x y z a b c : ℤ) (hx : SFits w32 x × (a ≡ x)) (hy : SFits w32 y × (b ≡ y)) (hz : SFits w32 z × (c ≡ z)) where
+  pub narrowed_some : (t : Triple) → t ≡ triple (to_z w32 (of_z w32 a)) (to_z w32 (of_z w32 b)) (to_z w32 (of_z w32 c)) → Some t ≡ narrowed (triple x y z)
+  unfolding narrowed
+  narrowed_some t e =
+      let n : pass (narrow (triple x y z)) ≡ true = narrow_true (triple x y z) (record { x = is_i32 x hx.0; y = is_i32 y hy.0; z = is_i32 z hz.0 }) in
+      let same : t ≡ triple x y z =
+      e ∙ triple_is (ap (λ (v : ℤ). to_z w32 (of_z w32 v)) hx.1 ∙ to_z-of_z w32 x hx.0) (ap (λ (v : ℤ). to_z w32 (of_z w32 v)) hy.1 ∙ to_z-of_z w32 y hy.0) (ap (λ (v : ℤ). to_z w32 (of_z w32 v)) hz.1 ∙ to_z-of_z w32 z hz.0) in
+      rw n (ap Some same)
+
+pub narrowed_by : (r : Option Triple) (t u : Triple) → r ≡ narrowed t → t.x ≡ u.x → t.y ≡ u.y → t.z ≡ u.z → r ≡ narrowed u
+narrowed_by r t u e f g h = e ∙ ap narrowed (triple_is f g h)
+
+shown : (u : Triple) (t : Triple) → narrowed u ≡ Some t → (pass (narrow u) ≡ true) × (u ≡ t)
+unfolding narrowed
+shown u t e = go (pass (narrow u)) refl e
+  where
+    go : (f : Bool) → pass (narrow u) ≡ f → cond f (Some u) None ≡ Some t → (pass (narrow u) ≡ true) × (u ≡ t)
+    go true p e = (p, cc)
+    go false p e = let z : ◌≡◌ {A = ℕ} 0 1 = cc in absurd (omega arith)
+
+shown_none : (u : Triple) → narrowed u ≡ None → pass (narrow u) ≡ false
+unfolding narrowed
+shown_none u e = go (pass (narrow u)) refl e
+  where
+    go : (f : Bool) → pass (narrow u) ≡ f → cond f (Some u) None ≡ None → pass (narrow u) ≡ false
+    go true p e = let z : ◌≡◌ {A = ℕ} 0 1 = cc in absurd (omega arith)
+    go false p e = p
+
 -- ---- the sum of a triple's coordinates
 abbrev good : Triple → List Test
 good t = (pos 0 ≤? sum_of t) ∷ (sum_of t ≤? pos 1) ∷ []
@@ -112,13 +157,23 @@ sum_good t s l e =
     let h = eq_of v (search view) tt e in
     good_true t (le_by (search view) v tt (omega arith)) (le_by v (search view) tt (omega arith))
 
-pub corner_refused : (t : Triple) → good_sum t ≡ false → refused (number_of Sum) ≡ corner_sum_of t
-unfolding corner_sum_of
-corner_refused t g = rw g
+-- the corner sum where the parity is answered, and the refusal where it is not
+module _ (t : Triple) where
+  pub corner_told : (n : ℕ) → told n ≡ parity_of t → (p : AB) → p ≡ corner_sum t → told p ≡ corner_sum_of t
+  unfolding parity_of corner_sum_of
+  corner_told n e p f = go (good_sum t) e
+    where
+      go : (g : Bool) → told n ≡ refuse (not g) Sum (told (nat_abs (sum_of t))) → told p ≡ refuse (not g) Sum (told (corner_sum t))
+      go true e = ap told f
+      go false e = let z : ◌≡◌ {A = ℕ} 0 1 = cc in absurd (omega arith)
 
-pub corner_told : (t : Triple) → good_sum t ≡ true → told (corner_sum t) ≡ corner_sum_of t
-unfolding corner_sum_of
-corner_told t g = rw g
+  pub corner_refused : (n : ℕ) → refused n ≡ parity_of t → refused n ≡ corner_sum_of t
+  unfolding parity_of corner_sum_of
+  corner_refused n e = go (good_sum t) e
+    where
+      go : (g : Bool) → refused n ≡ refuse (not g) Sum (told (nat_abs (sum_of t))) → refused n ≡ refuse (not g) Sum (told (corner_sum t))
+      go true e = let z : ◌≡◌ {A = ℕ} 0 1 = cc in absurd (omega arith)
+      go false e = let k : n ≡ number_of Sum = cc in ap refused k
 
 -- ---- the corner sum names the triple
 pub corner_sum_unique : (t u : Triple) → good_sum t ≡ true → good_sum u ≡ true → corner_sum t ≡ corner_sum u → t ≡ u
@@ -224,14 +279,33 @@ pub has_true : (p : AB) (t : Triple) → Has p t → true ≡ has_corner_sum p t
 unfolding has_corner_sum
 has_true p t h = subst (λ (q : AB). true ≡ has_corner_sum q t) h.sum (true_pass (tests (corner_sum t) t) (holds t h.narrow))
 
-pub has_wide : (p : AB) (x y z : ℤ) (f : Bool) → f ≡ pass (fits32 x (fits32 y (fits32 z []))) → not f ≡ true → false ≡ has_corner_sum p (triple x y z)
-has_wide p x y z f e n = has_false p (triple x y z) (λ h. true≢false (sym (narrow_true (triple x y z) h.narrow) ∙ sym e ∙ not-true f n))
+-- by the corner sum of the candidate that is narrow, and its two comparisons
+module _ (s : ℕ) (p : AB) (r : Option Triple) (er : r ≡ narrowed (candidate s p)) where
+  pub with_none : r ≡ None → None ≡ with_sum s p
+  with_none e =
+      let f : false ≡ has_corner_sum p (candidate s p) = has_false p (candidate s p) (λ h. true≢false (sym (narrow_true (candidate s p) h.narrow) ∙ shown_none (candidate s p) (sym er ∙ e))) in
+      rw (← f)
 
-pub narrow_flag : (x y z : ℤ) (f : Bool) → f ≡ pass (fits32 x (fits32 y (fits32 z []))) → not f ≡ false → pass (fits32 x (fits32 y (fits32 z []))) ≡ true
-narrow_flag x y z f e n = sym e ∙ not-false f n
+  module _ (t : Triple) (e : r ≡ Some t) (q : AB) (eq : q ≡ corner_sum t) (f : Bool) (ef : f ≡ (int_eq q.a p.a && int_eq q.b p.b)) where
+    pub with_some : f ≡ true → Some t ≡ with_sum s p
+    with_some g =
+        let n = shown (candidate s p) t (sym er ∙ e) in
+        let b = both_true (int_eq q.a p.a) (int_eq q.b p.b) (sym ef ∙ g) in
+        let same : q ≡ p = pair_is ((Decides-int_eq q.a p.a).0 b.0) ((Decides-int_eq q.b p.b).0 b.1) in
+        let h : true ≡ has_corner_sum p (candidate s p) = has_true p (candidate s p) (record { sum = ap corner_sum n.1 ∙ sym eq ∙ same; narrow = narrow_of (candidate s p) n.0 }) in
+        rw (← h) (ap Some (sym n.1))
 
-pub has_narrow : (p : AB) (x y z : ℤ) (f : Bool) → f ≡ has_corner_sum p (triple x y z) → f ≡ true → pass (fits32 x (fits32 y (fits32 z []))) ≡ true
-has_narrow p x y z f e h = narrow_true (triple x y z) (has_of p (triple x y z) (sym e ∙ h)).narrow
+    pub with_other : f ≡ false → None ≡ with_sum s p
+    with_other g =
+        let n = shown (candidate s p) t (sym er ∙ e) in
+        let h : false ≡ has_corner_sum p (candidate s p) =
+        has_false p (candidate s p) (λ h.
+        let same : q ≡ p = eq ∙ ap corner_sum (sym n.1) ∙ h.sum in
+        let yes : f ≡ true = rw (ef, (Decides-int_eq q.a p.a).1 (ap (λ (x : AB). x.a) same), (Decides-int_eq q.b p.b).1 (ap (λ (x : AB). x.b) same)) refl in
+        true≢false (sym yes ∙ g)) in
+        rw (← h)
+
+pub ruleset with_laws = (with_none, with_some, with_other)
 
 -- ---- the triple of a pair, case by case
 module _ (p : AB) (f : Bool) (ef : f ≡ far p) where
@@ -255,6 +329,27 @@ module _ (p : AB) (f : Bool) (ef : f ≡ far p) where
       pub triple_none : k ≡ false → refused (number_of Pair) ≡ triple_of p
       unfolding triple_of
       triple_none e = rw (← ef, near, et, ← eh, no, eu, ← ek, e)
+
+-- what the two candidates answer, one after the other
+module _ (p : AB) (near : far p ≡ false) (r : Option Triple) (er : r ≡ with_sum 0 p) where
+  pub answered_even : (t : Triple) → r ≡ Some t → told t ≡ triple_of p
+  unfolding triple_of
+  answered_even t e = rw near (go (has_corner_sum p (candidate 0 p)) (sym e ∙ er))
+    where
+      go : (h : Bool) → Some t ≡ cond h (Some (candidate 0 p)) None
+          → told t ≡ cond h (told (candidate 0 p)) (cond (has_corner_sum p (candidate 1 p)) (told (candidate 1 p)) (refused (number_of Pair)))
+      go true e = let same : t ≡ candidate 0 p = cc in ap told same
+      go false e = let z : ◌≡◌ {A = ℕ} 0 1 = cc in absurd (omega arith)
+
+  pub answered_odd : r ≡ None → (q : Option Triple) → q ≡ with_sum 1 p → (a : Result Triple Refusal) → a ≡ ok_or q Pair → said a ≡ triple_of p
+  unfolding triple_of
+  answered_odd e q eq a ea = rw (near, ea, eq) (go (has_corner_sum p (candidate 0 p)) (has_corner_sum p (candidate 1 p)) (sym e ∙ er))
+    where
+      go : (h k : Bool) → None ≡ cond h (Some (candidate 0 p)) None
+          → said (ok_or (cond k (Some (candidate 1 p)) None) Pair) ≡ cond h (told (candidate 0 p)) (cond k (told (candidate 1 p)) (refused (number_of Pair)))
+      go true k e = let z : ◌≡◌ {A = ℕ} 0 1 = cc in absurd (omega arith)
+      go false true e = refl
+      go false false e = refl
 
 -- ---- the inverse, exactly
 names_candidate : (s : ℕ) → s ≤ 1 → (p : AB) → far p ≡ false → has_corner_sum p (candidate s p) ≡ true → HasTriple p (candidate s p)

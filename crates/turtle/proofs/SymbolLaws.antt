@@ -1,14 +1,14 @@
 -- What a text of bytes draws: what its parts draw, one after the other. And a lowercase letter steps as its uppercase one does, by one computation over the alphabet.
 use mathlib.Core.Path.{◌≡◌, refl, sym, subst}
 use mathlib.Core.List.{List, [], ◌∷◌, ◌++◌, append_assoc}
-use mathlib.Core.Option.{Option, none, some}
 use Prim.Native.Nat.{ℕ, ◌+◌, ◌-◌, ◌≤◌}
 use native.Mathlib.Omega.{arith}
+use Rattle.std.specs.Prelude.{Some, None, Option}
 use Rattle.whole.proofs.Lists.{firsts_agree}
 use Rattle.turtle.specs.declared.AB.{AB}
-use Rattle.turtle.specs.declared.letter.Letter.{Letter}
 use Rattle.turtle.specs.Letters.{letters, stroke_of}
 use Rattle.turtle.specs.Walk.{symbol_of, symbols_of}
+use Rattle.turtle.specs.declared.letter.Stroke.{Stroke}
 
 pub symbols_append : (v w : List ℕ) → symbols_of (v ++ w) ≡ symbols_of v ++ symbols_of w
 unfolding symbols_of
@@ -16,9 +16,9 @@ symbols_append [] w = refl
 symbols_append (b ∷ v) w = rw (symbols_append v w) (sym (append_assoc (symbol_of b) _ _))
 
 -- a letter's step, if it draws
-abbrev pub stepped : Letter → Option AB
-stepped (Letter.Draws s) = some s.step
-stepped Letter.NoDraw = none
+abbrev pub stepped : Option Stroke → Option AB
+stepped (Some s) = Some s.step
+stepped None = None
 
 pub case_step : (u : ℕ) → 65 ≤ u → u ≤ 90 → stepped (stroke_of u) ≡ stepped (stroke_of (u + 32))
 unfolding letters stroke_of

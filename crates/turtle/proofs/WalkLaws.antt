@@ -8,17 +8,16 @@ use native.Mathlib.Omega.{arith}
 use borrow.Author.Tests.{eq-eqb, ne_eqb}
 use lib.Dec.{T}
 use lib.IntN.{ℤ}
+use Rattle.std.specs.Prelude.{Some, None, Option, Ok, Err}
 use Rattle.whole.proofs.Bools.{both, both_left, both_right}
 use Rattle.whole.proofs.Parts.{up, dn}
 use Rattle.whole.proofs.View.{View, view, v_var, v_pos, v_neg, v_add, v_within, le_by, le_of}
 use Rattle.turtle.specs.declared.AB.{AB}
 use Rattle.turtle.specs.declared.letter.Stroke.{Stroke}
-use Rattle.turtle.specs.declared.letter.Flavor.{Flavor}
-use Rattle.turtle.specs.declared.letter.Letter.{Letter}
 use Rattle.turtle.specs.declared.walk.Turtle.{Turtle}
 use Rattle.turtle.specs.declared.walk.Corners.{Corners}
 use Rattle.turtle.specs.declared.walk.Stepped.{Stepped}
-use Rattle.turtle.specs.declared.walk.Hosted.{Hosted}
+use Rattle.turtle.specs.declared.walk.Unhosted.{Unhosted}
 use Rattle.turtle.specs.Plane.{ab, ◌⊕◌, rot, rots, far}
 use Rattle.turtle.specs.Letters.{stroke_of}
 use Rattle.turtle.specs.Walk.{letter, symbol_of, turtle, move, corner, corners, turned_flavor, cell, faced, step_by, step_of, corners_of}
@@ -86,7 +85,7 @@ module _ (s : Stroke) (t : Turtle) (cs : Corners) (e : cs ≡ corners s t) where
       let r = add_small (near_small n) (rots_small t.heading w.r) in
       rw e (small_more (omega arith) p, small_more (omega arith) q, small_more (omega arith) r, small_more (omega arith) (add_small p q))
 
-  pub cell_at_lem : {u v : AB} {f : Flavor} → u ≡ cs.p ⊕ cs.q → v ≡ u ⊕ cs.r → f ≡ turned_flavor t.heading s.flavor → record { sum = v; flavor = f } ≡ cell s t
+  pub cell_at_lem : {u v : AB} {f : Option ℕ} → u ≡ cs.p ⊕ cs.q → v ≡ u ⊕ cs.r → f ≡ turned_flavor t.heading s.flavor → record { sum = v; flavor = f } ≡ cell s t
   unfolding corners cell
   cell_at_lem eu ev ef = rw (ev, eu, ef, e)
 
@@ -96,7 +95,7 @@ module _ (b : ℕ) (t : Turtle) {lost : Bool} (e : lost ≡ far t.at) where
   unfolding step_of
   step_lost h = rw (sym e ∙ h)
 
-  pub corners_lost : lost ≡ true → Hosted.Lost ≡ corners_of b t
+  pub corners_lost : lost ≡ true → Err Unhosted.Lost ≡ corners_of b t
   unfolding corners_of
   corners_lost h = rw (sym e ∙ h)
 
@@ -109,19 +108,19 @@ module _ (b : ℕ) (t : Turtle) {lost : Bool} (e : lost ≡ far t.at) where
     unfolding step_of symbol_of move
     step_right h k = rw (sym e ∙ near, ne_eqb b 43 h, eq-eqb b 45 k)
 
-    module _ {l : Letter} (d : l ≡ stroke_of b) where
-      pub step_none : (b ≡ 43 → ⊥) → (b ≡ 45 → ⊥) → l ≡ Letter.NoDraw → Stepped.NoDraw ≡ step_of b t
+    module _ {l : Option Stroke} (d : l ≡ stroke_of b) where
+      pub step_none : (b ≡ 43 → ⊥) → (b ≡ 45 → ⊥) → l ≡ None → Stepped.NoDraw ≡ step_of b t
       unfolding step_of symbol_of
       step_none h k n = rw (sym e ∙ near, ne_eqb b 43 h, ne_eqb b 45 k, sym d ∙ n)
 
-      pub step_drew : (b ≡ 43 → ⊥) → (b ≡ 45 → ⊥) → {s : Stroke} {r : Stepped} → l ≡ Letter.Draws s → r ≡ step_by (letter s ∷ []) (faced t) → r ≡ step_of b t
+      pub step_drew : (b ≡ 43 → ⊥) → (b ≡ 45 → ⊥) → {s : Stroke} {r : Stepped} → l ≡ Some s → r ≡ step_by (letter s ∷ []) (faced t) → r ≡ step_of b t
       unfolding step_of symbol_of
       step_drew h k {s} {r} n i = rw (sym e ∙ near, ne_eqb b 43 h, ne_eqb b 45 k, sym d ∙ n) i
 
-      pub corners_none : l ≡ Letter.NoDraw → Hosted.NoDraw ≡ corners_of b t
+      pub corners_none : l ≡ None → Err Unhosted.NoDraw ≡ corners_of b t
       unfolding corners_of
       corners_none n = rw (sym e ∙ near, sym d ∙ n)
 
-      pub corners_at : {s : Stroke} {cs : Corners} → l ≡ Letter.Draws s → cs ≡ corners s (faced t) → Hosted.Corners cs ≡ corners_of b t
+      pub corners_at : {s : Stroke} {cs : Corners} → l ≡ Some s → cs ≡ corners s (faced t) → Ok cs ≡ corners_of b t
       unfolding corners_of
-      corners_at {s} {cs} n i = rw (sym e ∙ near, sym d ∙ n) (ap Hosted.Corners i)
+      corners_at {s} {cs} n i = rw (sym e ∙ near, sym d ∙ n) (ap Ok i)

@@ -4,9 +4,9 @@ use mathlib.Core.Bool.{Bool, true, false}
 use mathlib.Core.List.{List, [], ◌∷◌, ◌++◌, map}
 use Prim.Native.Nat.{ℕ, ◌+◌, ◌*◌, ◌/◌, ◌%◌}
 use native.Mathlib.Omega.{arith}
+use Rattle.std.specs.Prelude.{Option, Some, None}
 use Rattle.turtle.specs.declared.AB.{AB}
 use Rattle.turtle.specs.declared.letter.Stroke.{Stroke}
-use Rattle.turtle.specs.declared.letter.Flavor.{Flavor}
 use Rattle.turtle.specs.declared.walk.Turtle.{Turtle}
 use Rattle.turtle.specs.declared.walk.DrawnCell.{DrawnCell}
 use Rattle.turtle.specs.Plane.{origin, ◌⊕◌, thrice, rots, signed, facing, flipped}
@@ -69,27 +69,27 @@ toggled_zero : (b : ℕ) → toggled 0 b ≡ b
 unfolding toggled
 toggled_zero b = omega arith
 
-flavor_twice : (h k : ℕ) (f : Flavor) → turned_flavor k (turned_flavor h f) ≡ turned_flavor (h + k) f
+flavor_twice : (h k : ℕ) (f : Option ℕ) → turned_flavor k (turned_flavor h f) ≡ turned_flavor (h + k) f
 unfolding turned_flavor
-flavor_twice h k (Flavor.Of b) = ap Flavor.Of (toggled_toggled h k b)
-flavor_twice h k Flavor.None = refl
+flavor_twice h k (Some b) = ap Some (toggled_toggled h k b)
+flavor_twice h k None = refl
 
-flavor_mod : (h : ℕ) (f : Flavor) → turned_flavor (h % 6) f ≡ turned_flavor h f
+flavor_mod : (h : ℕ) (f : Option ℕ) → turned_flavor (h % 6) f ≡ turned_flavor h f
 unfolding turned_flavor
-flavor_mod h (Flavor.Of b) = ap Flavor.Of (toggled_mod h b)
-flavor_mod h Flavor.None = refl
+flavor_mod h (Some b) = ap Some (toggled_mod h b)
+flavor_mod h None = refl
 
-flavor_zero : (f : Flavor) → turned_flavor 0 f ≡ f
+flavor_zero : (f : Option ℕ) → turned_flavor 0 f ≡ f
 unfolding turned_flavor
-flavor_zero (Flavor.Of b) = ap Flavor.Of (toggled_zero b)
-flavor_zero Flavor.None = refl
+flavor_zero (Some b) = ap Some (toggled_zero b)
+flavor_zero None = refl
 
-flavor_spin : (f : Bool) (h : ℕ) (c : Flavor) → turned_flavor (spin f h) c ≡ turned_flavor (facing f) (turned_flavor h c)
+flavor_spin : (f : Bool) (h : ℕ) (c : Option ℕ) → turned_flavor (spin f h) c ≡ turned_flavor (facing f) (turned_flavor h c)
 unfolding spin facing
 flavor_spin false h c = sym (flavor_zero _)
 flavor_spin true h c = flavor_mod (h + 3) c ∙ sym (flavor_twice h 3 c)
 
-flavor_flipped : (f k : Bool) (c : Flavor) → turned_flavor (facing f) (turned_flavor (facing k) c) ≡ turned_flavor (facing (flipped f k)) c
+flavor_flipped : (f k : Bool) (c : Option ℕ) → turned_flavor (facing f) (turned_flavor (facing k) c) ≡ turned_flavor (facing (flipped f k)) c
 unfolding facing flipped
 flavor_flipped false k c = flavor_zero _
 flavor_flipped true false c = flavor_twice 0 3 c

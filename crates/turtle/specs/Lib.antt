@@ -2,5 +2,4 @@ pub mod Plane
 pub mod Letters
 pub mod Walk
 pub mod Corners
-pub mod Answers
 pub mod Inside

@@ -1,14 +1,12 @@
 -- The turtle's walk: turns and strokes, the cells that it draws, where it ends.
-use Rattle.std.specs.Prelude.{cond, List, [], ◌∷◌, ◌++◌, ℕ, ◌+◌, ◌%◌, eqb}
+use Rattle.std.specs.Prelude.{cond, List, [], ◌∷◌, ◌++◌, ℕ, ◌+◌, ◌%◌, eqb, Option, Some, None, Result, Ok, Err}
 use Rattle.turtle.specs.declared.AB.{AB}
 use Rattle.turtle.specs.declared.letter.Stroke.{Stroke}
-use Rattle.turtle.specs.declared.letter.Flavor.{Flavor}
-use Rattle.turtle.specs.declared.letter.Letter.{Letter}
 use Rattle.turtle.specs.declared.walk.Turtle.{Turtle}
 use Rattle.turtle.specs.declared.walk.DrawnCell.{DrawnCell}
 use Rattle.turtle.specs.declared.walk.Corners.{Corners}
 use Rattle.turtle.specs.declared.walk.Stepped.{Stepped}
-use Rattle.turtle.specs.declared.walk.Hosted.{Hosted}
+use Rattle.turtle.specs.declared.walk.Unhosted.{Unhosted}
 use Rattle.turtle.specs.Plane.{origin, ◌⊕◌, rots, far}
 use Rattle.turtle.specs.Letters.{toggled, stroke_of}
 
@@ -19,9 +17,9 @@ pub data Sym (A : Type 0) : Type 0 where
   letter : A → Sym A
 
 -- the symbols that a text of bytes has; a byte that is neither turn nor draw letter is passed over
-abbrev pub drawn : Letter → List (Sym Stroke)
-drawn (Letter.Draws s) = letter s ∷ []
-drawn Letter.NoDraw = []
+abbrev pub drawn : Option Stroke → List (Sym Stroke)
+drawn (Some s) = letter s ∷ []
+drawn None = []
 
 unfoldable pub symbol_of : ℕ → List (Sym Stroke)
 symbol_of b = cond (eqb b 43) (left ∷ []) (cond (eqb b 45) (right ∷ []) (drawn (stroke_of b)))
@@ -49,9 +47,9 @@ unfoldable pub corners : Stroke → Turtle → Corners
 corners s t = record { p = corner t s.p; q = corner t s.q; r = corner t s.r }
 
 -- base xor 1 if lowercase, which the stroke has, xor the heading's low bit
-unfoldable pub turned_flavor : ℕ → Flavor → Flavor
-turned_flavor h (Flavor.Of f) = Flavor.Of (toggled h f)
-turned_flavor h Flavor.None = Flavor.None
+unfoldable pub turned_flavor : ℕ → Option ℕ → Option ℕ
+turned_flavor h (Some f) = Some (toggled h f)
+turned_flavor h None = None
 
 -- the cell: the sum of its three corners, and its flavor
 unfoldable pub cell : Stroke → Turtle → DrawnCell
@@ -81,9 +79,9 @@ step_by (letter s ∷ w) t = Stepped.Drew (cell s t) (move (letter s) t)
 unfoldable pub step_of : ℕ → Turtle → Stepped
 step_of b t = cond (far t.at) Stepped.Lost (step_by (symbol_of b) (faced t))
 
-abbrev pub corners_by : Letter → Turtle → Hosted
-corners_by (Letter.Draws s) t = Hosted.Corners (corners s t)
-corners_by Letter.NoDraw t = Hosted.NoDraw
+abbrev pub corners_by : Option Stroke → Turtle → Result Corners Unhosted
+corners_by (Some s) t = Ok (corners s t)
+corners_by None t = Err Unhosted.NoDraw
 
-unfoldable pub corners_of : ℕ → Turtle → Hosted
-corners_of b t = cond (far t.at) Hosted.Lost (corners_by (stroke_of b) (faced t))
+unfoldable pub corners_of : ℕ → Turtle → Result Corners Unhosted
+corners_of b t = cond (far t.at) (Err Unhosted.Lost) (corners_by (stroke_of b) (faced t))

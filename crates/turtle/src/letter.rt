@@ -13,96 +13,83 @@ pub struct Stroke {
     pub p: AB,
     pub q: AB,
     pub r: AB,
-    pub flavor: Flavor,
+    pub flavor: Option<u8>,
 }
 
-// U and u host cells that are no pentagon's, and have none.
-#[derive(Clone, Copy)]
-pub enum Flavor {
-    Of(u8),
-    None,
-}
-
-#[derive(Clone, Copy)]
-pub enum Letter {
-    Draws(Stroke),
-    NoDraw,
-}
-
-pub fn stroke_of(letter: u8) -> Letter
+pub fn stroke_of(letter: u8) -> Option<Stroke>
     ensures { result ≡ stroke_of letter }
 {
     match letter {
-        b'E' => Letter::Draws(Stroke {
+        b'E' => Some(Stroke {
             step: AB::new(4, 0),
             p: AB::new(0, 0),
             q: AB::new(4, 0),
             r: AB::new(4, -4),
-            flavor: Flavor::Of(2),
+            flavor: Some(2),
         }),
-        b'e' => Letter::Draws(Stroke {
+        b'e' => Some(Stroke {
             step: AB::new(4, 0),
             p: AB::new(0, 0),
             q: AB::new(4, 0),
             r: AB::new(0, 4),
-            flavor: Flavor::Of(3),
+            flavor: Some(3),
         }),
-        b'S' => Letter::Draws(Stroke {
+        b'S' => Some(Stroke {
             step: AB::new(4, -2),
             p: AB::new(0, 0),
             q: AB::new(4, 0),
             r: AB::new(4, -4),
-            flavor: Flavor::Of(0),
+            flavor: Some(0),
         }),
-        b's' => Letter::Draws(Stroke {
+        b's' => Some(Stroke {
             step: AB::new(4, -2),
             p: AB::new(4, -2),
             q: AB::new(0, 2),
             r: AB::new(0, -2),
-            flavor: Flavor::Of(1),
+            flavor: Some(1),
         }),
-        b'U' => Letter::Draws(Stroke {
+        b'U' => Some(Stroke {
             step: AB::new(0, 2),
             p: AB::new(0, 2),
             q: AB::new(0, -2),
             r: AB::new(4, -2),
-            flavor: Flavor::None,
+            flavor: None,
         }),
-        b'u' => Letter::Draws(Stroke {
+        b'u' => Some(Stroke {
             step: AB::new(0, 2),
             p: AB::new(0, 0),
             q: AB::new(0, 4),
             r: AB::new(-4, 4),
-            flavor: Flavor::None,
+            flavor: None,
         }),
-        b'D' => Letter::Draws(Stroke {
+        b'D' => Some(Stroke {
             step: AB::new(0, -2),
             p: AB::new(0, 2),
             q: AB::new(0, -2),
             r: AB::new(4, -2),
-            flavor: Flavor::Of(1),
+            flavor: Some(1),
         }),
-        b'd' => Letter::Draws(Stroke {
+        b'd' => Some(Stroke {
             step: AB::new(0, -2),
             p: AB::new(0, 0),
             q: AB::new(0, -4),
             r: AB::new(-4, 0),
-            flavor: Flavor::Of(0),
+            flavor: Some(0),
         }),
-        b'T' => Letter::Draws(Stroke {
+        b'T' => Some(Stroke {
             step: AB::new(-4, 0),
             p: AB::new(0, -4),
             q: AB::new(-4, 0),
             r: AB::new(-4, -4),
-            flavor: Flavor::Of(3),
+            flavor: Some(3),
         }),
-        b't' => Letter::Draws(Stroke {
+        b't' => Some(Stroke {
             step: AB::new(-4, 0),
             p: AB::new(-4, 4),
             q: AB::new(0, 0),
             r: AB::new(0, 4),
-            flavor: Flavor::Of(2),
+            flavor: Some(2),
         }),
-        _ => Letter::NoDraw,
+        _ => None,
     }
 }

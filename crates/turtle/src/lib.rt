@@ -11,7 +11,7 @@ pub mod letter;
 pub mod walk;
 
 // A point of the lattice with the basis u = (√3/4, 1/4), v = (0, 1/2), or a sum of three such.
-#[derive(Clone, Copy)]
+#[derive(Clone, Copy, PartialEq, Eq)]
 pub struct AB {
     pub a: i64,
     pub b: i64,
@@ -31,17 +31,6 @@ impl AB {
     pub fn is_far(self) -> bool
         ensures { result ≡ far self }
     {
-        let a = self.a;
-        let b = self.b;
-        if a > Self::LIMIT {
-            return true;
-        }
-        if a < -Self::LIMIT {
-            return true;
-        }
-        if b > Self::LIMIT {
-            return true;
-        }
-        b < -Self::LIMIT
+        self.a.unsigned_abs().max(self.b.unsigned_abs()) > Self::LIMIT.unsigned_abs()
     }
 }

@@ -5,7 +5,7 @@ ghost use Rattle.turtle.specs.Plane.{◌⊕◌, rot, rots};
 ghost use Rattle.turtle.specs.Inside.Sizes.{Near, Roomy, Short, SmallStroke};
 
 use crate::AB;
-use crate::letter::{Flavor, Letter, Stroke, stroke_of};
+use crate::letter::{Stroke, stroke_of};
 
 #[derive(Clone, Copy)]
 pub struct Turtle {
@@ -17,7 +17,7 @@ pub struct Turtle {
 #[derive(Clone, Copy)]
 pub struct DrawnCell {
     pub sum: AB,
-    pub flavor: Flavor,
+    pub flavor: Option<u8>,
 }
 
 #[derive(Clone, Copy)]
@@ -36,9 +36,9 @@ pub enum Stepped {
     Lost,
 }
 
+// Why a letter hosts no cell: it draws none, or the turtle is beyond `AB::LIMIT`.
 #[derive(Clone, Copy)]
-pub enum Hosted {
-    Corners(Corners),
+pub enum Unhosted {
     NoDraw,
     Lost,
 }
@@ -65,26 +65,24 @@ impl Turtle {
                 heading: (heading + 5) % 6,
             });
         }
-        let drawn = stroke_of(letter);
-        let Letter::Draws(s) = drawn else {
+        let Some(s) = stroke_of(letter) else {
             return Stepped::NoDraw;
         };
         drew(s, at, heading)
     }
 
     // The three corners of the cell that a letter hosts.
-    pub fn corners(self, letter: u8) -> Hosted
+    pub fn corners(self, letter: u8) -> Result<Corners, Unhosted>
         ensures { result ≡ corners_of letter self }
     {
         let at = self.at;
         if at.is_far() {
-            return Hosted::Lost;
+            return Err(Unhosted::Lost);
         }
-        let drawn = stroke_of(letter);
-        let Letter::Draws(s) = drawn else {
-            return Hosted::NoDraw;
+        let Some(s) = stroke_of(letter) else {
+            return Err(Unhosted::NoDraw);
         };
-        Hosted::Corners(corners_of(s, at, self.heading % 6))
+        Ok(corners_of(s, at, self.heading % 6))
     }
 }
 
@@ -103,9 +101,10 @@ fn cell_of(s: Stroke, at: AB, heading: u8) -> DrawnCell
 {
     let c = corners_of(s, at, heading);
     let sum = add(add(c.p, c.q), c.r);
-    let base = s.flavor;
-    let flavor = turned(base, heading);
-    DrawnCell { sum, flavor }
+    DrawnCell {
+        sum,
+        flavor: turned(s.flavor, heading),
+    }
 }
 
 fn corners_of(s: Stroke, at: AB, heading: u8) -> Corners
@@ -126,12 +125,13 @@ fn corner(c: AB, at: AB, heading: u8) -> AB
 }
 
 // A flavor's low bit turns over with the heading's.
-fn turned(flavor: Flavor, heading: u8) -> Flavor
+// Stays a match, and no `map`: of what its closure answers the proof learns nothing that closes it.
+fn turned(flavor: Option<u8>, heading: u8) -> Option<u8>
     ensures { result ≡ turned_flavor heading flavor }
 {
     match flavor {
-        Flavor::Of(f) => Flavor::Of(f ^ (heading % 2)),
-        Flavor::None => Flavor::None,
+        Some(f) => Some(f ^ (heading % 2)),
+        None => None,
     }
 }
 

@@ -19,64 +19,50 @@
 // input is cut and the output gathered, and what is said where a read or a write fails, is `lines`'s.
 #![tactic(auto)]
 
-ghost use Rattle.std.specs.Prelude.{◌+◌, ◌≤◌, length};
-
-use lines::Exchange;
-use text::words::word;
+use lines::{Answers, answer_lines};
+use print::{Answer, Fault};
+use triple::refusal::Refusal;
+use words::Words;
 
 mod ask;
 mod grammars;
 mod print;
+mod words;
 
-// The answer to a line, which asks for what its letter says.
-fn answer(line: &[u8], out: &mut [u8]) -> usize
-    ensures { result ≤ length out.old }
-{
-    let head = word(line, 0);
-    if head.len() != 1 {
-        return print::unread(out);
-    }
-    let letter = head[0];
-    match letter {
-        b'S' => ask::corner_sum(line, out),
-        b'I' => ask::triple(line, out),
-        b'W' => ask::code(line, out),
-        b'K' => ask::reading(line, out),
-        b'N' => ask::child(line, out),
-        b'G' => grammars::state(line, out),
-        b'D' => grammars::descent(line, out),
-        _ => print::unread(out),
+// What a line asks for is what its letter says.
+// Stays a match on the letter: a table of functions has the same pairs and needs a search besides.
+fn answered(words: Words<'_>, out: &mut Answer<'_>) -> Result<(), Fault> {
+    match words.at(0) {
+        [b'S'] => ask::corner_sum(words, out),
+        [b'I'] => ask::triple(words, out),
+        [b'W'] => ask::code(words, out),
+        [b'K'] => ask::reading(words, out),
+        [b'N'] => ask::child(words, out),
+        [b'G'] => grammars::state(words, out),
+        [b'D'] => grammars::descent(words, out),
+        _ => Err(Fault::from(Refusal::Line)),
     }
 }
 
-// With the answer to a whole line, and LF.
-fn answered(mut exchange: Exchange, line: &[u8], out: &mut [u8]) -> Exchange
-    requires { (exchange.kept ≤ length line.now) × (exchange.gathered + 256 ≤ length out.old) }
-{
-    if !exchange.is_whole() {
-        return exchange;
+#[derive(Clone, Copy)]
+struct Replay;
+
+impl Answers for Replay {
+    // None, where it has no room.
+    fn answer(&self, line: &[u8], out: &mut [u8]) -> usize {
+        let room = out.len();
+        let mut answer = Answer::new(out);
+        if let Err(e) = answered(Words::new(line), &mut answer) {
+            answer.fault(e);
+        }
+        let end = answer.end();
+        if end > room { 0 } else { end }
     }
-    let kept = exchange.kept;
-    let at = exchange.gathered;
-    let to = at + answer(&line[..kept], &mut out[at..at + 255]);
-    out[to] = 10;
-    exchange.gathered = to + 1;
-    exchange
 }
 
-// All of standard input, or so much of it as can be read and answered. The loop counts down from a
-// number that no input uses up.
+// All of standard input, or so much of it as can be read and answered.
 fn main(rt: HostRuntime) {
     let mut from = rt.stdin();
-    let mut piece = [0u8; 65536];
     let mut line = [0u8; 4096];
-    let mut out = [0u8; 65536];
-    let mut exchange = Exchange::new();
-    let mut turns = u64::MAX;
-    while turns > 0 {
-        exchange = exchange.next(&mut from, &rt, &mut piece, &mut line, &out, 256);
-        exchange = answered(exchange, &line, &mut out);
-        turns = exchange.left(turns);
-    }
-    exchange.close(&rt, &out);
+    answer_lines(&Replay, &mut from, &rt, &mut line);
 }

@@ -1,5 +1,5 @@
 -- How the code goes along two areas at once: from a place on the curve at resolution 30, with a cursor in each, to the next place where one of them begins or ends.
-use Rattle.std.specs.Prelude.{Bool, ◌&&◌, ◌≡◌, List, [], ◌∷◌, ℕ, suc, ◌+◌, ◌-◌, ◌*◌, ◌%◌, ◌^◌, ◌<◌, ◌≤◌, leb, eqb, length, drop}
+use Rattle.std.specs.Prelude.{◌≡◌, List, [], ◌∷◌, ℕ, suc, ◌+◌, ◌-◌, ◌*◌, ◌%◌, ◌^◌, ◌<◌, ◌≤◌, length, drop}
 use Rattle.fold.specs.Cells.{Cell, cell, cells_in}
 use Rattle.fold.specs.Inside.Pairs.{Laid}
 use Rattle.area.specs.declared.operation.Operation.{Operation}
@@ -34,11 +34,7 @@ pub record Pieced (o : Operation) (a b : List ℕ) (place : ℕ) (x : Piece) : T
   pub left : Reached a x.end x.i
   pub right : Reached b x.end x.j
 
--- a cell that stands k resolutions above 30 begins at lo and ends at hi or before
-unfoldable pub fits_at : ℕ → ℕ → ℕ → Bool
-fits_at lo hi k = eqb (lo % 4 ^ k) 0 && leb (4 ^ k) (hi - lo)
-
--- and no larger one does
+-- a cell that stands k resolutions above 30 begins at lo and ends at hi or before, and no larger one does
 pub record Fits (lo hi k : ℕ) : Type 0 where
   pub within : k ≤ 30
   pub even : lo % 4 ^ k ≡ 0

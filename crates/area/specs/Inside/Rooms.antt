@@ -1,18 +1,7 @@
--- What the walk along two areas asks: that both are areas, and room where it writes.
-use Rattle.std.specs.Prelude.{Bool, true, false, cond, ◌≡◌, List, ℕ, ◌+◌, ◌-◌, ◌*◌, ◌/◌, ◌^◌, ◌≤◌, leb, length, set}
-use Rattle.fold.specs.Cells.{cells_in}
-use Rattle.fold.specs.Inside.Pairs.{Laid}
+-- The room for what an operation makes of two areas, and what the walk along them stores.
+use Rattle.std.specs.Prelude.{Bool, false, cond, ◌≡◌, List, ℕ, ◌+◌, ◌-◌, ◌*◌, ◌/◌, ◌^◌, leb, set}
 use Rattle.area.specs.declared.operation.Operation.{Operation}
-use Rattle.area.specs.Areas.{made_of}
 use Rattle.area.specs.Inside.Cursors.{Fits}
-
-pub record Areas (a b : List ℕ) : Type 0 where
-  pub first : Laid 30 0 (cells_in a)
-  pub second : Laid 30 0 (cells_in b)
-
-pub record Walkable (o : Operation) (a b : List ℕ) (writing : Bool) (slice : List ℕ) : Type 0 where
-  pub areas : Areas a b
-  pub room : writing ≡ true → 2 * length (made_of o a b) ≤ length slice
 
 -- the room that needs no count: the cells of both areas have room together, and so has what an operation makes of them
 unfoldable pub ample : Operation → ℕ → ℕ → ℕ → Bool

@@ -1,15 +1,12 @@
 -- What the code has on its way to a classifier: a set of children, the line that is found, the lines that are gathered.
-use Rattle.std.specs.Prelude.{◌≡◌, Bool, true, false, not, cond, ◌&&◌, List, [], ◌∷◌, ℕ, zero, suc, ◌+◌, ◌≤◌, ltb, ℤ, neg_ℤ, ◌+ℤ◌, length, get_or, take}
-use mathlib.Core.Option.{Option, none, some}
+use Rattle.std.specs.Prelude.{◌≡◌, Bool, true, false, not, cond, ◌&&◌, List, [], ◌∷◌, ℕ, zero, suc, ◌+◌, ◌≤◌, ltb, ℤ, neg_ℤ, ◌+ℤ◌, length, get_or}
 use Rattle.turtle.specs.declared.AB.{AB}
 use Rattle.turtle.specs.Plane.{origin}
 use Rattle.turtle.specs.Inside.Sizes.{Within}
 use Rattle.classifier.specs.declared.Placed.{Placed}
 use Rattle.classifier.specs.declared.Separator.{Separator}
 use Rattle.classifier.specs.declared.groups.Group.{Group}
-use Rattle.classifier.specs.declared.groups.FoundLine.{FoundLine}
-use Rattle.classifier.specs.declared.splits.Gathered.{Gathered}
-use Rattle.classifier.specs.Splits.{Polygon, line_through, edges, over, tree_of, whole, collected, choice}
+use Rattle.classifier.specs.Splits.{Polygon, line_through, over, tree_of, whole, collected, choice}
 use Rattle.classifier.specs.Shapes.{placed_corners, no_placed, polygon_of, no_separator}
 
 -- a corner of a placed footprint reaches no further
@@ -32,8 +29,8 @@ unfoldable pub members_from : List Placed → List Bool → ℕ → ℕ → List
 members_from gs has zero d = []
 members_from gs has (suc n) d = let rest = members_from gs has n (suc d) in kept (get_or has d false) (polygon_of gs d) rest
 
-abbrev pub members : List Placed → Group → List Polygon
-members gs group = members_from gs group.has 4 0
+abbrev pub members : Group → List Polygon
+members group = members_from group.children.now group.has 4 0
 
 -- whether the child of digit d is one of them, and over the line, or not over it
 abbrev pub on_side : Bool → Bool → Bool
@@ -52,32 +49,18 @@ first_digit (g ∷ gs) = g.digit
 unfoldable pub edge_at : List AB → ℕ → Separator
 edge_at ps i = cond (ltb (i + 1) (length ps)) (line_through (get_or ps i origin) (get_or ps (i + 1) origin)) (line_through (get_or ps i origin) (get_or ps 0 origin))
 
--- the edges of the child of digit d, where it is of the set
-abbrev pub edges_of : List Placed → List Bool → ℕ → List Separator
-edges_of gs has d = cond (get_or has d false) (edges (placed_corners (get_or gs d no_placed))) []
+-- ---- lines gathered so far, each once, and whether each set met was split
+pub record Lines : Type 0 where
+  pub lines : List Separator
+  pub whole : Bool
 
--- ---- what a search for a line found
-abbrev pub found_line : FoundLine → Option Separator
-found_line (FoundLine.Line s) = some s
-found_line FoundLine.Nothing = none
-
--- ---- lines gathered so far, those unused zero
+-- as the code has them, those unused zero
 abbrev pub three_of : List Separator → List Separator
 three_of ss = get_or ss 0 no_separator ∷ get_or ss 1 no_separator ∷ get_or ss 2 no_separator ∷ []
 
-abbrev pub gathered_by : List Separator → Bool → Gathered
-gathered_by ss w = record { lines = three_of ss; count = length ss; whole = w }
-
-unfoldable pub gathered_lines : Gathered → List Separator
-gathered_lines g = take g.count g.lines
-
-pub record Kept (g : Gathered) : Type 0 where
-  pub is : g ≡ gathered_by (gathered_lines g) g.whole
-  pub few : g.count ≤ 3
-
 -- what is gathered once the tree of a set is gone through, and the child that a pattern leads to there: by a tree of any depth that the set needs
-pub record Through (gs : List Polygon) (so_far r : Gathered) : Type 0 where
-  pub by : (n : ℕ) → length gs ≤ suc n → r ≡ gathered_by (collected (gathered_lines so_far) (tree_of n gs)) (so_far.whole && whole (tree_of n gs))
+pub record Through (gs : List Polygon) (so_far r : Lines) : Type 0 where
+  pub by : (n : ℕ) → length gs ≤ suc n → r ≡ record { lines = collected so_far.lines (tree_of n gs); whole = so_far.whole && whole (tree_of n gs) }
 
 pub record Led (gs : List Polygon) (ss : List Separator) (pattern d : ℕ) : Type 0 where
   pub by : (n : ℕ) → length gs ≤ suc n → d ≡ choice ss pattern (tree_of n gs)

@@ -6,8 +6,8 @@ use Rattle.code.proofs.joined.Goals as goal
 pub with_byte-v-requires : goal.with_byte-v-requires
 with_byte-v-requires c = search (rules, joining)
 
-pub loop-k-preserved : goal.loop-k-preserved
-loop-k-preserved c = search (rules, joining)
+pub loop-b-preserved : goal.loop-b-preserved
+loop-b-preserved c = search (rules, joining)
 
 pub returns : goal.returns
 returns c = search (rules, joining)

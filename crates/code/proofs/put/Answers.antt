@@ -3,9 +3,6 @@ use borrow.Author.Rules.{rules}
 use Rattle.code.proofs.WriteLaws.{putting}
 use Rattle.code.proofs.put.Goals as goal
 
-pub loop-k-init : goal.loop-k-init
-loop-k-init c = search (rules, putting)
-
 pub loop-k-preserved : goal.loop-k-preserved
 loop-k-preserved c = search (rules, putting)
 

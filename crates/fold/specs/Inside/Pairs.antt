@@ -1,5 +1,10 @@
 -- How the code tests a list of pairs, and what the tests tell of its cells.
 use Rattle.std.specs.Prelude.{false, cond, ◌&&◌, List, [], ◌∷◌, ℕ, suc, ◌-◌, ◌*◌, ◌^◌, ◌<◌, ◌≤◌, ltb, leb}
+use Rattle.triple.specs.declared.refusal.Refusal.{Refusal}
+use Rattle.triple.specs.declared.refusal.Refusal.TheVariants as Is
+use Rattle.triple.specs.Domain.{greatest_orientation}
+use Rattle.fold.specs.declared.pairs.Fault.{Fault}
+use Rattle.fold.specs.declared.pairs.Fault.TheVariants as Test
 use Rattle.fold.specs.declared.pairs.Seen.{Seen}
 use Rattle.fold.specs.Cells.{Cell, cell, cells_in}
 
@@ -19,3 +24,9 @@ Laid r place (cell m p ∷ cells) = (m ≤ r) × (p < 4 ^ m) × (place ≤ p * 4
 pub record Tested (r : ℕ) (xs : List ℕ) : Type 0 where
   pub low : r ≤ 30
   pub laid : Laid r 0 (cells_in xs)
+
+-- what unfolding refuses a list by that fails a test: it tests the orientation behind the resolutions
+abbrev pub refusal_at : ℕ → Fault → Refusal
+refusal_at o Test.Resolution = Is.Resolution
+refusal_at o Test.Position = cond (ltb greatest_orientation o) Is.Orientation Is.Position
+refusal_at o Test.Order = cond (ltb greatest_orientation o) Is.Orientation Is.Order

@@ -1,6 +1,5 @@
 -- A row cut at its spaces, and the first row of a text, by the places of the bytes that they are cut at.
-use Rattle.std.specs.Prelude.{◌≡◌, true, false, List, ◌∷◌, ℕ, suc, ◌+◌, ◌-◌, ◌≤◌, ◌<◌, length, get_or, take, drop}
-use Rattle.grammar.specs.declared.scan.Shape.{Shape}
+use Rattle.std.specs.Prelude.{◌≡◌, true, false, List, ◌∷◌, ℕ, suc, ◌+◌, ◌-◌, ◌≤◌, ◌<◌, length, get_or, take, drop, Option, Some, None}
 use Rattle.grammar.specs.Texts.{Row, shaped, line_of, rows_of}
 
 -- ---- the first row of a text t
@@ -26,9 +25,9 @@ pub record Three (w : List ℕ) (k n : ℕ) : Type 0 where
   pub draw_fits : n ≤ k + 15
   pub long : k + 3 < n
 
-abbrev pub WholeRow : List ℕ → Shape → Type 0
-WholeRow w (Shape.Line k n) = Three w k n
-WholeRow w Shape.Other = shaped (ended w) ≡ false
+abbrev pub WholeRow : List ℕ → Option (ℕ × ℕ) → Type 0
+WholeRow w (Some (k, n)) = Three w k n
+WholeRow w None = shaped (ended w) ≡ false
 
 pub record Misshapen (t : List ℕ) : Type 0 where
   pub row : Row
@@ -36,6 +35,6 @@ pub record Misshapen (t : List ℕ) : Type 0 where
   pub rows : rows_of t ≡ row ∷ rest
   pub bad : shaped row ≡ false
 
-abbrev pub FirstRow : List ℕ → Shape → Type 0
-FirstRow t (Shape.Line k n) = Cut t k n
-FirstRow t Shape.Other = Misshapen t
+abbrev pub FirstRow : List ℕ → Option (ℕ × ℕ) → Type 0
+FirstRow t (Some (k, n)) = Cut t k n
+FirstRow t None = Misshapen t

@@ -1,9 +1,10 @@
 -- What a word's symbols come to, byte by byte, and whether each of its bytes may stand there: loop invariants of the tests 14 to 18.
 use Rattle.std.specs.Prelude.{◌≡◌, Bool, true, false, ◌&&◌, ◌||◌, List, [], ◌∷◌, ℕ, ◌+◌, ◌%◌, eqb}
+use Rattle.std.specs.List.{FoldsTo}
 use Rattle.turtle.specs.Walk.{Sym, left, right, letter, symbol_of, symbols_of}
 use Rattle.grammar.specs.declared.tally.Kind.{Kind}
 use Rattle.grammar.specs.declared.tally.Tally.{Tally}
-use Rattle.grammar.specs.Words.{upper, reversed}
+use Rattle.grammar.specs.Words.{upper}
 use Rattle.grammar.specs.Texts.{Line}
 use Rattle.grammar.specs.Curves.{is_named, rule_symbol, rule_symbols, turned, letter_count, upright}
 use Rattle.grammar.specs.Tests.{lawful_rule, is_turn, is_stroke, lawful_draw}
@@ -49,7 +50,6 @@ RuleWord ls w t = Tallied (rule_symbols ls w) (lawful_rule ls w) t
 abbrev pub DrawWord : List ℕ → Tally → Type 0
 DrawWord w t = Tallied (symbols_of w) (lawful_draw w) t
 
--- a word, or its reverse
-abbrev pub directed : Bool → List ℕ → List ℕ
-directed true w = reversed w
-directed false w = w
+-- the tally of a word whose bytes are of the kinds that `is` says
+abbrev pub Counts : (ℕ → Kind → Type 0) → Tally → List ℕ → Tally → Type 0
+Counts is = FoldsTo (λ t b s. (k : Kind) × is b k × (s ≡ tally_with k t))

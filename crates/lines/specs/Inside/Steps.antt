@@ -1,5 +1,5 @@
 -- The parts of a step, one after the other.
-use Rattle.std.specs.Prelude.{◌≡◌, true, List, ℕ, zero, suc, ℤ, pos, negsuc, min}
+use Rattle.std.specs.Prelude.{◌≡◌, true, List, ℕ, zero, suc, ℤ, pos, negsuc, min, Option, None, Some}
 use Rattle.lines.specs.declared.Stop.{Stop}
 use Rattle.lines.specs.declared.Stop.TheVariants.{Piece, Last, End, Failed}
 use Rattle.lines.specs.declared.Exchange.{Exchange}
@@ -26,6 +26,11 @@ at_end e = ended e.kept e.gathered (end_of e.kept)
 abbrev pub clamp_len : ℤ → ℕ → ℕ
 clamp_len (pos k) most = min k most
 clamp_len (negsuc k) most = 0
+
+-- what a READ gave, as its answer: -1 where it gave nothing
+abbrev pub count_of : Option ℕ → ℤ
+count_of None = negsuc 0
+count_of (Some n) = pos n
 
 -- A READ's answer: -1 where it failed, 0 at the end of the input, or how many bytes of the next piece
 unfoldable pub after_read : ℕ → ℤ → Exchange → Exchange

@@ -1,5 +1,5 @@
 -- What a walk and a search keep on the way.
-use Rattle.std.specs.Prelude.{◌≡◌, ℕ, ◌+◌, ◌*◌, ◌%◌, ◌^◌, ◌≤◌}
+use Rattle.std.specs.Prelude.{◌≡◌, ℕ, ◌+◌, ◌*◌, ◌^◌, ◌≤◌}
 use Rattle.a5.specs.Inside.Spots.{Spot}
 use Rattle.strides.specs.declared.Walk.{Walk}
 use Rattle.strides.specs.declared.End.{End}
@@ -19,16 +19,14 @@ pub record SearchRoom (n : ℕ) (q : Search) : Type 0 where
   pub s : (q.s + 1) * 4 ^ n ≤ 4 ^ 27
 
 -- ---- the loops: what is left to do from here is what was to do from the first
--- a walk by the digits of s, with n of them after the next three
-pub record Walking (end : End) (s n : ℕ) (w : Walk) : Type 0 where
-  pub thirds : n % 3 ≡ 0
-  pub most : n ≤ 27
-  pub room : WalkRoom n w
-  pub rest : end_after (n + 2) s w ≡ end
+-- a walk by the digits of s, with k steps of three before the last
+pub record Walking (end : End) (s k : ℕ) (w : Walk) : Type 0 where
+  pub most : k ≤ 9
+  pub room : WalkRoom (3 * k) w
+  pub rest : end_after (3 * k + 2) s w ≡ end
 
--- a search by the bits of p, with n of them after the next three
-pub record Searching (digits : ℕ) (p : Spot) (n : ℕ) (q : Search) : Type 0 where
-  pub thirds : n % 3 ≡ 0
-  pub most : n ≤ 27
-  pub room : SearchRoom n q
-  pub rest : digits_after (n + 3) p q ≡ digits
+-- a search by the bits of p, with k steps of three before the last
+pub record Searching (digits : ℕ) (p : Spot) (k : ℕ) (q : Search) : Type 0 where
+  pub most : k ≤ 9
+  pub room : SearchRoom (3 * k) q
+  pub rest : digits_after (3 * k + 3) p q ≡ digits

@@ -9,5 +9,5 @@ returns-then-x c = search (rules, planning)
 pub returns-else-x : goal.returns-else-x
 returns-else-x c = search (rules, planning)
 
-pub returns-in-Refused : goal.returns-in-Refused
-returns-in-Refused c = search (rules, planning)
+pub returns-in-Err : goal.returns-in-Err
+returns-in-Err c = search (rules, planning)

@@ -9,5 +9,5 @@ returns-then-x c = search (rules, unreading)
 pub returns-else-x : goal.returns-else-x
 returns-else-x c = search (rules, unreading)
 
-pub returns-in-Refused : goal.returns-in-Refused
-returns-in-Refused c = search (rules, unreading)
+pub returns-in-Err : goal.returns-in-Err
+returns-in-Err c = search (rules, unreading)

@@ -6,9 +6,6 @@ use Rattle.nodes.proofs.frame_below.Goals as goal
 pub overflow_mul-recipe : goal.overflow_mul-recipe
 overflow_mul-recipe c = search (rules, arriving)
 
-pub overflow_mul-place : goal.overflow_mul-place
-overflow_mul-place c = search (rules, arriving)
-
 pub descend-requires : goal.descend-requires
 descend-requires c = search (rules, arriving)
 

@@ -12,16 +12,14 @@ use Rattle.lsystem.specs.declared.cell.Cell.{Cell}
 use Rattle.nodes.specs.declared.Frame.{Frame}
 use Rattle.nodes.specs.declared.descent.Place.{Place}
 use Rattle.nodes.specs.declared.descent.Drawn.{Drawn}
-use Rattle.nodes.specs.declared.words.Step.{Step}
-use Rattle.nodes.specs.declared.words.Leaf.{Leaf}
 use Rattle.nodes.specs.Nodes.{is_flipped, frame_start, frame}
 
 -- ---- what the table has of the child and the leaf d of the state k
-unfoldable pub step_at : ℕ → ℕ → Step
-step_at k d = record { state = unsigned_abs (child_at a5_table k d); a = (offset_at a5_table k d).a; b = (offset_at a5_table k d).b }
+unfoldable pub step_at : ℕ → ℕ → Place
+step_at k d = record { a = (offset_at a5_table k d).a; b = (offset_at a5_table k d).b; state = unsigned_abs (child_at a5_table k d) }
 
-unfoldable pub leaf_at : ℕ → ℕ → Leaf
-leaf_at k d = record { a = (sum_at a5_table k d).a; b = (sum_at a5_table k d).b; flavor = unsigned_abs (flavor_at a5_table k d) }
+unfoldable pub leaf_at : ℕ → ℕ → Drawn
+leaf_at k d = record { sum = sum_at a5_table k d; flavor = unsigned_abs (flavor_at a5_table k d) }
 
 -- ---- one level down from a place, to the child d; and the leaf d there
 unfoldable pub down : Place → ℕ → Place
@@ -32,7 +30,7 @@ down p d =
 unfoldable pub leaf_from : Place → ℕ → Drawn
 leaf_from p d =
     let l = leaf_at p.state d in
-    record { sum = ab (pos 3 *ℤ p.a +ℤ l.a) (pos 3 *ℤ p.b +ℤ l.b); flavor = l.flavor }
+    record { sum = ab (pos 3 *ℤ p.a +ℤ l.sum.a) (pos 3 *ℤ p.b +ℤ l.sum.b); flavor = l.flavor }
 
 -- by the digits n to 1 of s
 unfoldable pub descended : ℕ → ℕ → Place → Place

@@ -1,11 +1,11 @@
--- Triples by where their numbers stand, and what the tests of a report tell.
-use Rattle.std.specs.Prelude.{true, ◌≡◌, List, ℕ, ◌+◌, ◌*◌, ◌≤◌, ℤ, pos, get_or}
+-- A triple by its three numbers, and what the tests of a report tell.
+use Rattle.std.specs.Prelude.{true, ◌≡◌, List, ℕ, ◌≤◌, ℤ, pos, get_or}
 use Rattle.triple.specs.declared.Triple.{Triple}
 use Rattle.triple.specs.Triples.{good_sum, is_in_bounds}
 use Rattle.report.specs.Reports.{triples_in, every}
 
-unfoldable pub triple_at : List ℤ → ℕ → Triple
-triple_at xs k = record { x = get_or xs (3 * k) (pos 0); y = get_or xs (3 * k + 1) (pos 0); z = get_or xs (3 * k + 2) (pos 0) }
+abbrev pub triple_of : List ℤ → Triple
+triple_of xs = record { x = get_or xs 0 (pos 0); y = get_or xs 1 (pos 0); z = get_or xs 2 (pos 0) }
 
 -- a report that has passed its tests
 pub record Reported (o r : ℕ) (xs : List ℤ) : Type 0 where

@@ -3,14 +3,14 @@ use borrow.Author.Rules.{rules}
 use Rattle.sketch.proofs.DrawLaws.{filling}
 use Rattle.sketch.proofs.fill.Goals as goal
 
-pub overflow_cast-axiom : goal.overflow_cast-axiom
-overflow_cast-axiom c = search (rules, filling)
+pub overflow_cast-recipe : goal.overflow_cast-recipe
+overflow_cast-recipe c = search (rules, filling)
 
-pub overflow_add-axiom : goal.overflow_add-axiom
-overflow_add-axiom c = search (rules, filling)
+pub overflow_add-recipe : goal.overflow_add-recipe
+overflow_add-recipe c = search (rules, filling)
 
-pub forward-requires : goal.forward-requires
-forward-requires c = search (rules, filling)
+pub met-requires : goal.met-requires
+met-requires c = search (rules, filling)
 
 pub returns : goal.returns
 returns c = search (rules, filling)

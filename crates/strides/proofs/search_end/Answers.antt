@@ -1,6 +1,7 @@
--- `search_end` is an entry, unpacked.
-use Rattle.strides.proofs.EntryLaws.{end_word_is}
+-- `search_end` is an entry.
+use Rattle.std.proofs.Common.{◌∙◌}
+use Rattle.strides.proofs.TableLaws.{search_ends_at}
 use Rattle.strides.proofs.search_end.Goals as goal
 
 pub returns : goal.returns
-returns c = end_word_is _ _ c.word.ensures
+returns c = c.entry_of.ensures ∙ search_ends_at _

@@ -1,7 +1,7 @@
 -- How the tables' entries are packed.
 use Rattle.std.specs.Prelude.{ℕ, ◌+◌, ◌*◌}
 use Rattle.strides.specs.Walks.{walk_step, walk_end}
-use Rattle.strides.specs.Searches.{search_step, search_end}
+use Rattle.strides.specs.Searches.{search_step}
 
 -- x in 4 bits, the row in the place of its first entry, from bit 6, and y from bit 11
 unfoldable pub walk_entry : ℕ → ℕ
@@ -14,7 +14,3 @@ end_entry i = let e = walk_end i in e.x + 16 * e.y + 512 * e.flavor
 -- the digits in 6 bits, and the row in the place of its first entry
 unfoldable pub search_entry : ℕ → ℕ
 search_entry i = let q = search_step i in q.s + q.row
-
--- four ends, each in 8 bits
-unfoldable pub end_word : ℕ → ℕ
-end_word i = search_end (4 * i) + 256 * (search_end (4 * i + 1) + 256 * (search_end (4 * i + 2) + 256 * search_end (4 * i + 3)))

@@ -1,5 +1,5 @@
 -- The children along a rule so far, by the source's own letters: loop invariants of the compiler.
-use Rattle.std.specs.Prelude.{◌≡◌, cond, List, [], ◌∷◌, ◌++◌, ℕ, ◌+◌, ◌<◌, min, eqb, length, take}
+use Rattle.std.specs.Prelude.{◌≡◌, cond, List, [], ◌∷◌, ◌++◌, ℕ, ◌+◌, min, eqb, take}
 use Rattle.turtle.specs.Walk.{Sym, left, right, letter}
 use Rattle.grammar.specs.Words.{upper}
 use Rattle.grammar.specs.Curves.{place_in, turned, letter_count}
@@ -20,14 +20,8 @@ unfoldable pub rule_symbols_by : Source → List ℕ → List (Sym ℕ)
 rule_symbols_by s [] = []
 rule_symbols_by s (b ∷ w) = rule_symbol_by s b ++ rule_symbols_by s w
 
--- room for four, and a heading
-pub record OpenChildren (m : RuleChildren) : Type 0 where
-  pub room : length m.children ≡ 4
-  pub faces : m.heading < 6
-
 -- from m on, along w
 pub record ChildrenOnward (m : RuleChildren) (w : List (Sym ℕ)) (n : RuleChildren) : Type 0 where
-  pub ready : OpenChildren n
   pub count : n.count ≡ m.count + letter_count w
   pub children : take n.count n.children ≡ take m.count m.children ++ children_along m.heading w
   pub heading : n.heading ≡ turned m.heading w

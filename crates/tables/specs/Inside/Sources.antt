@@ -1,5 +1,5 @@
 -- What the compiler has of a text: its lines by where their parts stand, and its tokens' letters.
-use Rattle.std.specs.Prelude.{◌≡◌, cond, List, [], ◌∷◌, ℕ, zero, suc, ◌≤◌, min, length, take}
+use Rattle.std.specs.Prelude.{◌≡◌, cond, List, [], ◌∷◌, ℕ, zero, suc, min, take}
 use Rattle.grammar.specs.declared.lines.Lines.{Lines}
 use Rattle.grammar.specs.Words.{upper}
 use Rattle.grammar.specs.Texts.{lines_of}
@@ -19,15 +19,9 @@ listed_from ls (suc n) b =
 unfoldable pub letters_in : Source → List ℕ
 letters_in s = take s.count s.bytes
 
--- at most n tokens so far
-pub record Holds (n : ℕ) (s : Source) : Type 0 where
-  pub room : length s.bytes ≡ 52
-  pub few : s.count ≤ n
-
 -- read from a text that the tests 12 to 19 find no fault with
 pub record Ready (text : List ℕ) (s : Source) : Type 0 where
   pub sized : Sized s.lines
   pub lines : lines_by text s.lines ≡ lines_of text
   pub fair : text_tests text fine ≡ fine
   pub tokens : letters_in s ≡ token_bytes (lines_of text)
-  pub held : Holds 52 s

@@ -12,20 +12,8 @@ returns-then-n-ge-MOST_CODES c = search (rules, checking)
 pub slice_bounds-judge-end-in-loop-at : goal.slice_bounds-judge-end-in-loop-at
 slice_bounds-judge-end-in-loop-at c = search (rules, checking)
 
-pub slice_bounds-judge-end-in-loop-at-2 : goal.slice_bounds-judge-end-in-loop-at-2
-slice_bounds-judge-end-in-loop-at-2 c = search (rules, checking)
-
-pub judge-judged-requires : goal.judge-judged-requires
-judge-judged-requires c = search (rules, checking)
-
-pub begin-requires : goal.begin-requires
-begin-requires c = search (rules, checking)
-
-pub overflow_add-x : goal.overflow_add-x
-overflow_add-x c = search (rules, checking)
-
-pub begin-requires-in-Right : goal.begin-requires-in-Right
-begin-requires-in-Right c = search (rules, checking)
+pub ground_of-requires : goal.ground_of-requires
+ground_of-requires c = search (rules, checking)
 
 pub overflow_add-at : goal.overflow_add-at
 overflow_add-at c = search (rules, checking)
@@ -36,8 +24,8 @@ loop-at-smaller c = search (rules, checking)
 pub loop-at-preserved : goal.loop-at-preserved
 loop-at-preserved c = search (rules, checking)
 
-pub returns-in-Wrong : goal.returns-in-Wrong
-returns-in-Wrong c = search (rules, checking)
+pub returns-in-Err : goal.returns-in-Err
+returns-in-Err c = search (rules, checking)
 
 pub returns : goal.returns
 returns c = search (rules, checking)

@@ -6,8 +6,8 @@ use Rattle.treated.proofs.judge.Goals as goal
 pub judge_reading-requires : goal.judge_reading-requires
 judge_reading-requires c = search (rules, reading)
 
-pub returns-in-Read : goal.returns-in-Read
-returns-in-Read c = search (rules, reading)
+pub returns-in-Ok : goal.returns-in-Ok
+returns-in-Ok c = search (rules, reading)
 
-pub returns-in-Refused : goal.returns-in-Refused
-returns-in-Refused c = search (rules, reading)
+pub returns-in-Err : goal.returns-in-Err
+returns-in-Err c = search (rules, reading)

@@ -1,11 +1,9 @@
--- `touches`: what is left of the grounds says what all of them say.
-use Prim.Native.Nat.{◌-◌}
-use lib.ListN.{length}
-use Rattle.treated.proofs.JudgeLaws.{TouchesFrom}
+-- `touches`: whether one of those so far meets it.
+use mathlib.Core.Path.{◌≡◌}
+use lib.ListN.{take}
+use Rattle.std.specs.List.{list_any}
+use Rattle.treated.specs.Inside.Grounds.{meets}
 use Rattle.treated.proofs.touches.Given as goal
 
-abbrev pub invariant-loop-k : goal.invariant-loop-k
-invariant-loop-k l = TouchesFrom l.starts l.ends l.start l.end l.k
-
-abbrev pub decreases-loop-k : goal.decreases-loop-k
-decreases-loop-k l = length l.starts - l.k
+abbrev pub invariant-loop-ground : goal.invariant-loop-ground
+invariant-loop-ground l = l.met ≡ list_any (λ g. meets g l.own) (take l.ground-index l.grounds)

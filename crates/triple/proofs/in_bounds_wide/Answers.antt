@@ -6,18 +6,6 @@ use Rattle.triple.proofs.in_bounds_wide.Goals as goal
 pub returns-then-resolution-gt-GREATEST_RESOLUTION : goal.returns-then-resolution-gt-GREATEST_RESOLUTION
 returns-then-resolution-gt-GREATEST_RESOLUTION c = search (rules, wide_bounds)
 
-pub returns-then-x-gt0 : goal.returns-then-x-gt0
-returns-then-x-gt0 c = search (rules, wide_bounds)
-
-pub returns-then-z-gt0 : goal.returns-then-z-gt0
-returns-then-z-gt0 c = search (rules, wide_bounds)
-
-pub returns-then-y-lt0 : goal.returns-then-y-lt0
-returns-then-y-lt0 c = search (rules, wide_bounds)
-
-pub returns-then-y-max_row : goal.returns-then-y-max_row
-returns-then-y-max_row c = search (rules, wide_bounds)
-
 pub overflow_add-xy : goal.overflow_add-xy
 overflow_add-xy c = search (rules, wide_bounds)
 
@@ -27,11 +15,8 @@ returns-then-xy-lt0 c = search (rules, wide_bounds)
 pub overflow_add-sum : goal.overflow_add-sum
 overflow_add-sum c = search (rules, wide_bounds)
 
-pub returns-then-sum-lt0 : goal.returns-then-sum-lt0
-returns-then-sum-lt0 c = search (rules, wide_bounds)
+pub returns-then-sum-ge0 : goal.returns-then-sum-ge0
+returns-then-sum-ge0 c = search (rules, wide_bounds)
 
-pub returns-then-sum-gt1 : goal.returns-then-sum-gt1
-returns-then-sum-gt1 c = search (rules, wide_bounds)
-
-pub returns : goal.returns
-returns c = search (rules, wide_bounds)
+pub returns-else-sum-ge0 : goal.returns-else-sum-ge0
+returns-else-sum-ge0 c = search (rules, wide_bounds)

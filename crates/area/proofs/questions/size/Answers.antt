@@ -1,22 +1,9 @@
--- `size`: each way out is a law of its answers, by what the tests before it told.
-use borrow.Author.Rules.{rules}
-use Rattle.area.proofs.AnswerLaws.{sizing}
+-- `size`: by the list's reading.
+use Rattle.area.proofs.AnswerLaws.{no_size, sized}
 use Rattle.area.proofs.questions.size.Goals as goal
 
-pub tests_passed-passed-requires : goal.tests_passed-passed-requires
-tests_passed-passed-requires c = search (rules, sizing)
+pub returns-in-Ok : goal.returns-in-Ok
+returns-in-Ok c = sized _ _ c.in-Ok.ensures.passed c.in-Ok.ensures.cells c.count_positions.ensures
 
-pub returns-then-passed-eq0 : goal.returns-then-passed-eq0
-returns-then-passed-eq0 c = search (rules, sizing)
-
-pub returns-then-passed-eq1 : goal.returns-then-passed-eq1
-returns-then-passed-eq1 c = search (rules, sizing)
-
-pub returns-then-passed-eq2 : goal.returns-then-passed-eq2
-returns-then-passed-eq2 c = search (rules, sizing)
-
-pub total-requires : goal.total-requires
-total-requires c = search (rules, sizing)
-
-pub returns : goal.returns
-returns c = search (rules, sizing)
+pub returns-in-Err : goal.returns-in-Err
+returns-in-Err c = no_size _ _ c.in-Err.fault c.in-Err.ensures.passed c.into.ensures

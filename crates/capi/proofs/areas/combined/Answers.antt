@@ -2,19 +2,19 @@
 use mathlib.Core.Path.{sym, ap}
 use Prim.Native.Nat.{◌/◌}
 use lib.Seq.{length-take-le}
-use Rattle.area.specs.Answers.{said_area}
 use Rattle.triple.proofs.LentLaws.{lent_told, lent_refused}
 use Rattle.capi.proofs.areas.combined.Goals as goal
+use Rattle.triple.specs.Refusals.{said}
 
 pub slice_bounds-combine-end-2 : goal.slice_bounds-combine-end-2
 slice_bounds-combine-end-2 c = sym (length-take-le _ _ c.lendable-room.ensures.0)
 
-pub returns-in-Pairs : goal.returns-in-Pairs
-returns-in-Pairs c =
+pub returns-in-Ok : goal.returns-in-Ok
+returns-in-Ok c =
     let l = c.lendable-room.ensures in
-    lent_told _ _ l.0 l.1 _ (λ n. n / 2) c.combine-answer.ensures.0 c.combine-answer.ensures.1 (ap said_area c.in-Pairs.is) c.put_count.ensures
+    lent_told _ _ l.0 l.1 _ (λ n. n / 2) c.combine-answer.ensures.0 c.combine-answer.ensures.1 (ap said c.in-Ok.is) c.put_count.ensures
 
-pub returns-in-Refused : goal.returns-in-Refused
-returns-in-Refused c =
+pub returns-in-Err : goal.returns-in-Err
+returns-in-Err c =
     let l = c.lendable-room.ensures in
-    lent_refused _ _ l.0 l.1 _ (λ n. n / 2) c.combine-answer.ensures.0 c.combine-answer.ensures.1 (ap said_area c.in-Refused.is) c.number.ensures
+    lent_refused _ _ l.0 l.1 _ (λ n. n / 2) c.combine-answer.ensures.0 c.combine-answer.ensures.1 (ap said c.in-Err.is) c.number.ensures

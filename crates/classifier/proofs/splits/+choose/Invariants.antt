@@ -4,4 +4,4 @@ use Rattle.classifier.specs.Inside.Sets.{members}
 use Rattle.classifier.proofs.splits.+choose.Given as goal
 
 abbrev pub decreases-choose : goal.decreases-choose
-decreases-choose l = length (members l.children l.group)
+decreases-choose l = length (members l.group.now)

@@ -4,4 +4,4 @@ use Rattle.classifier.specs.Inside.Sets.{members}
 use Rattle.classifier.proofs.splits.+gather.Given as goal
 
 abbrev pub decreases-gather : goal.decreases-gather
-decreases-gather l = length (members l.children l.group)
+decreases-gather l = length (members l.group.now)

@@ -1,5 +1,6 @@
 -- `reach`: what is left from the loop's place is what was to do from the origin.
-use mathlib.Core.Path.{ap, ◌∙◌}
+use mathlib.Core.Path.{◌≡◌, ap, ◌∙◌}
+use Prim.Native.Nat.{◌+◌, ◌-◌}
 use native.Mathlib.Omega.{arith}
 use Rattle.tables.specs.Descent.{follow}
 use Rattle.tables.proofs.HornerLaws.{origin_doubled}
@@ -19,19 +20,14 @@ down-p-requires c =
     let i = c.loop-k.invariant in
     (i.1.0, (room_here _ _ i.1.1.0, omega (arith, c.digit_of.ensures)))
 
-pub overflow_sub-k : goal.overflow_sub-k
-overflow_sub-k c = omega arith
-
-pub loop-k-smaller : goal.loop-k-smaller
-loop-k-smaller c = omega arith
-
 pub loop-k-preserved : goal.loop-k-preserved
 loop-k-preserved c =
     let i = c.loop-k.invariant in
     let k = c.loop-k.k in
     let p = c.loop-k.p in
     let t = c.args.table.now in
-    let d = c.digit_of.ensures in
+    let one : k - 1 + 1 ≡ k = omega arith in
+    let d = rw one at c.digit_of.ensures in
     rw c.down-p.ensures (omega arith, (known_down t p _ i.1.0 (omega (arith, d)), (near_step t k p _ (omega arith) i.1.0 (omega (arith, d)) i.1.1.0, follow_down t k _ p _ (omega arith) d ∙ i.1.1.1)))
 
 pub returns : goal.returns

@@ -8,6 +8,3 @@ use Rattle.descent.proofs.level.reach.Given as goal
 
 abbrev pub invariant-loop-k : goal.invariant-loop-k
 invariant-loop-k l = (l.k ≤ 29) × (Known l.table l.p.state × (RoomBelow l.k l.p × (follow l.table l.k (doubled l.k (level_start l.p)) l.p.state l.s ≡ follow l.table l.levels origin l.state l.s)))
-
-abbrev pub decreases-loop-k : goal.decreases-loop-k
-decreases-loop-k l = l.k

@@ -1,16 +1,8 @@
--- `is_ascending`: the rest from the entry before i on tells what the whole list tells.
-use borrow.Author.Rules.{rules}
-use Rattle.fold.proofs.ListLaws.{ascents}
+-- `is_ascending`: what `is_sorted_by` answers is what the definition does.
+use Rattle.std.proofs.Common.{ltb, rules, tests}
+use Rattle.std.proofs.lemmas.List.Sorted.{answers_always}
+use Rattle.fold.proofs.ListLaws.{ascends}
 use Rattle.fold.proofs.folding.is_ascending.Goals as goal
 
-pub loop-i-init : goal.loop-i-init
-loop-i-init c = search (rules, ascents)
-
-pub returns-then-positions-i : goal.returns-then-positions-i
-returns-then-positions-i c = search (rules, ascents)
-
-pub loop-i-preserved : goal.loop-i-preserved
-loop-i-preserved c = search (rules, ascents)
-
 pub returns : goal.returns
-returns c = search (rules, ascents)
+returns c = ascends c.args.positions.now _ (c.is_sorted_by.ensures.cases ltb (answers_always _ _ _ (λ f a r g h. search (rules, tests))))

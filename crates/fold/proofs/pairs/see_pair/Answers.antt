@@ -2,6 +2,7 @@
 use borrow.Author.Rules.{rules}
 use Rattle.fold.proofs.PairTestLaws.{seeing}
 use Rattle.fold.proofs.pairs.see_pair.Goals as goal
+use Rattle.fold.proofs.pairs.see_pair.Goals.{then-seen, else-seen}
 
 pub returns-then-p-position_count : goal.returns-then-p-position_count
 returns-then-p-position_count c = search (rules, seeing)
@@ -13,4 +14,4 @@ pub overflow_add-result : goal.overflow_add-result
 overflow_add-result c = search (rules, seeing)
 
 pub returns : goal.returns
-returns c = search (rules, seeing)
+returns c = elim c.if-seen.branch [ then-seen w ↦ search (rules, seeing) | else-seen w ↦ search (rules, seeing) ]

@@ -1,10 +1,6 @@
--- `put_run`: the run's first d positions stand in the place of the slice's entries.
-use Prim.Native.Nat.{◌-◌}
-use Rattle.fold.proofs.RunLaws.{Ran}
+-- `put_run`: the first d entries are the run's first.
+use Rattle.std.proofs.Common.{◌≡◌, ℕ, ◌+◌, ◌<◌, get_or}
 use Rattle.fold.proofs.unfolding.put_run.Given as goal
 
 abbrev pub invariant-loop-d : goal.invariant-loop-d
-invariant-loop-d l = Ran l.first l.count l.initial.out l.d l.out
-
-abbrev pub decreases-loop-d : goal.decreases-loop-d
-decreases-loop-d l = l.count - l.d
+invariant-loop-d l = (k : ℕ) → k < l.d → get_or l.s-items k 0 ≡ l.first + k

@@ -1,16 +1,14 @@
 -- `nets::stepped` is the move that the byte stands for: the turtle is near, so that it is not lost.
+use mathlib.Core.Path.{refl}
+use mathlib.Core.Logic.{⊎_elim}
 use Rattle.grammar.proofs.NetLaws.{step_drew, step_turned, step_nothing, step_lost}
-use borrow.Author.Rules.{rules}
 use Rattle.grammar.proofs.nets.stepped.Goals as goal
 
 pub returns-in-Drew : goal.returns-in-Drew
-returns-in-Drew c = search (rules, step_drew)
+returns-in-Drew c = step_drew _ _ c.requires c.in-Drew.ensures refl
 
-pub returns-in-Turned : goal.returns-in-Turned
-returns-in-Turned c = search (rules, step_turned)
+pub returns-in-Drew-2 : goal.returns-in-Drew-2
+returns-in-Drew-2 c = step_turned _ _ c.requires c.in-Drew.ensures refl
 
 pub returns-in-NoDraw : goal.returns-in-NoDraw
-returns-in-NoDraw c = step_nothing _ _ c.requires c.step.ensures c.in-NoDraw.is
-
-pub returns-in-Lost : goal.returns-in-Lost
-returns-in-Lost c = step_lost _ _ c.requires c.step.ensures c.in-Lost.is
+returns-in-NoDraw c = ⊎_elim (step_nothing _ _ c.requires c.step.ensures) (step_lost _ _ c.requires c.step.ensures) c.in-NoDraw.is

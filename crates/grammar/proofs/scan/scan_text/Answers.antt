@@ -18,12 +18,6 @@ rest_of-requires c = search (rules, scanning)
 pub first_row-row-requires : goal.first_row-row-requires
 first_row-row-requires c = search (rules, scanning)
 
-pub enum_known-row : goal.enum_known-row
-enum_known-row c = search (rules, scanning)
-
-pub enum_told-1 : goal.enum_told-1
-enum_told-1 c = search (rules, scanning)
-
 pub overflow_add-result : goal.overflow_add-result
 overflow_add-result c = search (rules, scanning)
 

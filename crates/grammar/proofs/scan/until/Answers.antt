@@ -1,15 +1,12 @@
--- `scan::until` finds the place of the first byte b: none of those passed is b.
-use Rattle.grammar.proofs.CutLaws.{passing_none, passing_next, passing_here, passing_all}
+-- `scan::until` finds the place of the first byte b, or the end.
+use mathlib.Core.Path.{◌≡◌, sym, ◌∙◌}
+use borrow.Author.Rules.{rules}
+use borrow.Author.Tests.{tests}
+use Rattle.std.proofs.lemmas.Iterator.{IsFirst-from_position, YieldsList-from_slice}
+use Rattle.grammar.proofs.CutLaws.{until_first}
 use Rattle.grammar.proofs.scan.until.Goals as goal
 
-pub loop-i-init : goal.loop-i-init
-loop-i-init c = passing_none _ _
-
-pub returns-then-s-i : goal.returns-then-s-i
-returns-then-s-i c = passing_here _ c.loop-i.invariant c.loop-i-test.true c.if-s-i.true
-
-pub loop-i-preserved : goal.loop-i-preserved
-loop-i-preserved c = passing_next _ c.loop-i.invariant c.loop-i-test.true c.if-s-i.false
-
 pub returns : goal.returns
-returns c = passing_all _ c.loop-i.invariant c.loop-i-test.false
+returns c =
+    let first = IsFirst-from_position _ _ _ (λ x. x ≡ c.args.b) (λ x. x ≡ c.args.b → ⊥) c.position.ensures.ran (YieldsList-from_slice c.args.s.now (cc)) (λ x q k. search (rules, tests)) (λ x q k. search (rules, tests)) in
+    c.unwrap_or.ensures ∙ sym (until_first c.args.b c.args.s.now _ first)

@@ -9,27 +9,6 @@ use Rattle.triple.proofs.DomainLaws.{v_power, v_rows}
 use Rattle.lsystem.specs.Inside.CellParts.{triple_by}
 use Rattle.lsystem.proofs.cell.triple_at.Goals as goal
 
-pub overflow_sub-column : goal.overflow_sub-column
-overflow_sub-column c =
-    let x = v_unsigned w64 (c.args.x + 1) (2 ^ 30) (omega (arith, c.requires.1.0)) in
-    let rows = (v_rows _ c.requires.0 c.row_count.ensures) in
-    fits (search seen depth 9) tt
-
-pub overflow_sub-up : goal.overflow_sub-up
-overflow_sub-up c =
-    let x = v_unsigned w64 (c.args.x + 1) (2 ^ 30) (omega (arith, c.requires.1.0)) in
-    let q = v_unsigned w64 c.args.parity 1 (omega (arith, c.requires.1.1.1)) in
-    let rows = (v_rows _ c.requires.0 c.row_count.ensures) in
-    fits (search seen depth 12) tt
-
-pub overflow_sub-up-2 : goal.overflow_sub-up-2
-overflow_sub-up-2 c =
-    let x = v_unsigned w64 (c.args.x + 1) (2 ^ 30) (omega (arith, c.requires.1.0)) in
-    let y = v_unsigned w64 c.args.y (2 ^ 30) (omega (arith, c.requires.1.1.0)) in
-    let q = v_unsigned w64 c.args.parity 1 (omega (arith, c.requires.1.1.1)) in
-    let rows = (v_rows _ c.requires.0 c.row_count.ensures) in
-    fits (search seen depth 14) tt
-
 pub overflow_cast-column-2 : goal.overflow_cast-column-2
 overflow_cast-column-2 c =
     let x = v_unsigned w64 (c.args.x + 1) (2 ^ 30) (omega (arith, c.requires.1.0)) in

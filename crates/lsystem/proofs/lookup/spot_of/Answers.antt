@@ -4,24 +4,10 @@ use Rattle.triple.proofs.DomainLaws.{v_rows}
 use Rattle.lsystem.proofs.PositionLaws.{spotted, column_is, row_is, slant_is, cast_of, cast_is}
 use Rattle.lsystem.proofs.lookup.spot_of.Goals as goal
 
-pub overflow_sub-x : goal.overflow_sub-x
-overflow_sub-x c =
-    let rows = (v_rows _ c.requires.1.0 c.row_count.ensures) in
-    fits (search seen depth 9) tt
-
-pub overflow_cast-x : goal.overflow_cast-x
-overflow_cast-x c = fits (search seen) tt
-
 pub overflow_add-x : goal.overflow_add-x
 overflow_add-x c =
     let rows = (v_rows _ c.requires.1.0 c.row_count.ensures) in
     fits (search seen depth 12) tt
-
-pub overflow_cast-g : goal.overflow_cast-g
-overflow_cast-g c = fits (search seen) tt
-
-pub overflow_sub-g : goal.overflow_sub-g
-overflow_sub-g c = fits (search seen depth 9) tt
 
 pub overflow_cast-result : goal.overflow_cast-result
 overflow_cast-result c = cast_of _ (column_is c.args.resolution c.args.t c.requires _ c.row_count.ensures) (spotted _ _ c.requires).small.0

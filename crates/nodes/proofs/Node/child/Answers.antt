@@ -9,8 +9,11 @@ returns-then-not-can_step c = search (rules, steps)
 pub returns-then-digit-gt3 : goal.returns-then-digit-gt3
 returns-then-digit-gt3 c = search (rules, steps)
 
-pub step_to-requires : goal.step_to-requires
-step_to-requires c = (search (rules, steps), search (rules, steps))
+pub invariant_of-digit : goal.invariant_of-digit
+invariant_of-digit c = search (rules, steps)
+
+pub returns-in_default : goal.returns-in_default
+returns-in_default c = search (rules, steps)
 
 pub returns : goal.returns
 returns c = search (rules, steps)

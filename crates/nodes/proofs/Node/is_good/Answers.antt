@@ -1,13 +1,13 @@
 -- `Node::is_good` meets its contract: the tests of a node, and those of its frame.
-use Rattle.std.proofs.Common.{rules}
-use Rattle.nodes.proofs.NodeLaws.{node_goodness}
+use Rattle.std.proofs.Common.{arith}
+use Rattle.std.proofs.lemmas.Grind.{common_steps}
+use Rattle.nodes.specs.Nodes.{good_node}
 use Rattle.nodes.proofs.Node.is_good.Goals as goal
 
-pub returns-then-self-gt-GREATEST_ORIENTATION : goal.returns-then-self-gt-GREATEST_ORIENTATION
-returns-then-self-gt-GREATEST_ORIENTATION c = search (rules, node_goodness)
+pub returns-then-self-le-GREATEST_RESOLUTION : goal.returns-then-self-le-GREATEST_RESOLUTION
+unfolding good_node
+returns-then-self-le-GREATEST_RESOLUTION c = grind (arith, common_steps)
 
-pub returns-then-self-gt-GREATEST_RESOLUTION : goal.returns-then-self-gt-GREATEST_RESOLUTION
-returns-then-self-gt-GREATEST_RESOLUTION c = search (rules, node_goodness)
-
-pub returns : goal.returns
-returns c = search (rules, node_goodness)
+pub returns-else-self-le-GREATEST_RESOLUTION : goal.returns-else-self-le-GREATEST_RESOLUTION
+unfolding good_node
+returns-else-self-le-GREATEST_RESOLUTION c = grind (arith, common_steps)

@@ -3,8 +3,5 @@ use Rattle.std.proofs.Common.{rules}
 use Rattle.nodes.proofs.A5Reads.{spreads}
 use Rattle.nodes.proofs.words.spread.Goals as goal
 
-pub overflow_sub-result : goal.overflow_sub-result
-overflow_sub-result c = search (rules, spreads)
-
 pub returns : goal.returns
 returns c = search (rules, spreads)

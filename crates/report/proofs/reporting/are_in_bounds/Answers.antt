@@ -1,28 +1,15 @@
--- `are_in_bounds`: those that are left tell what all tell.
+-- `are_in_bounds`: all of them pass.
+use mathlib.Core.Path.{◌∙◌}
 use borrow.Author.Rules.{rules}
-use Rattle.report.proofs.TripleLaws.{boundings}
+use borrow.Author.Tests.{tests}
+use Rattle.std.proofs.lemmas.Iterator.{YieldsList-from_slice}
+use Rattle.std.proofs.lemmas.Iterator.Search.{all_from_yields_List}
+use Rattle.triple.specs.Triples.{is_in_bounds}
+use Rattle.report.specs.Inside.Triples.{triple_of}
+use Rattle.report.proofs.TripleLaws.{all_pass, bounds_told}
 use Rattle.report.proofs.reporting.are_in_bounds.Goals as goal
 
-pub loop-k-init : goal.loop-k-init
-loop-k-init c = search (rules, boundings)
-
-pub triple_at-t-requires : goal.triple_at-t-requires
-triple_at-t-requires c = search (rules, boundings)
-
-pub in_bounds-requires : goal.in_bounds-requires
-in_bounds-requires c = search (rules, boundings)
-
-pub returns-then-not-in_bounds : goal.returns-then-not-in_bounds
-returns-then-not-in_bounds c = search (rules, boundings)
-
-pub overflow_add-k : goal.overflow_add-k
-overflow_add-k c = search (rules, boundings)
-
-pub loop-k-smaller : goal.loop-k-smaller
-loop-k-smaller c = search (rules, boundings)
-
-pub loop-k-preserved : goal.loop-k-preserved
-loop-k-preserved c = search (rules, boundings)
-
 pub returns : goal.returns
-returns c = search (rules, boundings)
+returns c =
+    all_from_yields_List (λ t. is_in_bounds c.args.resolution (triple_of t)) _ _ _ c.all.ensures.ran (YieldsList-from_slice c.given.result.now cc) (λ x b q k. search (rules, tests, bounds_told))
+    ∙ all_pass (is_in_bounds c.args.resolution) c.given.result.now c.given.ensures

@@ -1,11 +1,8 @@
--- `gather`: the positions of the triples behind the one at hand stand in front.
-use Prim.Native.Nat.{◌-◌}
-use lib.ListN.{length}
-use Rattle.report.proofs.TripleLaws.{Gathered}
+-- `gather`: the positions of the triples so far stand in front.
+use mathlib.Core.Path.{◌≡◌}
+use Rattle.whole.proofs.Fill.{poured}
+use Rattle.report.specs.Reports.{triples_in, places_of}
 use Rattle.report.proofs.reporting.gather.Given as goal
 
 abbrev pub invariant-loop-k : goal.invariant-loop-k
-invariant-loop-k l = Gathered l.orientation l.resolution l.triples l.initial.work l.k l.work
-
-abbrev pub decreases-loop-k : goal.decreases-loop-k
-decreases-loop-k l = length l.initial.work - l.k
+invariant-loop-k l = l.work ≡ poured (places_of l.orientation l.resolution (triples_in l.triples)) l.k l.initial.work

@@ -1,28 +1,15 @@
--- `have_good_sums`: those that are left tell what all tell.
+-- `have_good_sums`: all of them pass.
+use mathlib.Core.Path.{◌∙◌}
 use borrow.Author.Rules.{rules}
-use Rattle.report.proofs.TripleLaws.{testings}
+use borrow.Author.Tests.{tests}
+use Rattle.std.proofs.lemmas.Iterator.{YieldsList-from_slice}
+use Rattle.std.proofs.lemmas.Iterator.Search.{all_from_yields_List}
+use Rattle.triple.specs.Triples.{good_sum}
+use Rattle.report.specs.Inside.Triples.{triple_of}
+use Rattle.report.proofs.TripleLaws.{all_pass}
 use Rattle.report.proofs.reporting.have_good_sums.Goals as goal
 
-pub loop-k-init : goal.loop-k-init
-loop-k-init c = search (rules, testings)
-
-pub triple_at-requires : goal.triple_at-requires
-triple_at-requires c = search (rules, testings)
-
-pub has_good_sum-requires : goal.has_good_sum-requires
-has_good_sum-requires c = search (rules, testings)
-
-pub returns-then-not-has_good_sum : goal.returns-then-not-has_good_sum
-returns-then-not-has_good_sum c = search (rules, testings)
-
-pub overflow_add-k : goal.overflow_add-k
-overflow_add-k c = search (rules, testings)
-
-pub loop-k-smaller : goal.loop-k-smaller
-loop-k-smaller c = search (rules, testings)
-
-pub loop-k-preserved : goal.loop-k-preserved
-loop-k-preserved c = search (rules, testings)
-
 pub returns : goal.returns
-returns c = search (rules, testings)
+returns c =
+    all_from_yields_List (λ t. good_sum (triple_of t)) _ _ _ c.all.ensures.ran (YieldsList-from_slice c.given.result.now cc) (λ x b q k. search (rules, tests))
+    ∙ all_pass good_sum c.given.result.now c.given.ensures

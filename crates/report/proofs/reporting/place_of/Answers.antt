@@ -6,14 +6,8 @@ use Rattle.report.proofs.reporting.place_of.Goals as goal
 pub triple_to_s-answer-requires : goal.triple_to_s-answer-requires
 triple_to_s-answer-requires c = search (rules, places)
 
-pub enum_known-answer : goal.enum_known-answer
-enum_known-answer c = search (rules, places)
+pub returns-in-Ok : goal.returns-in-Ok
+returns-in-Ok c = search (rules, places)
 
-pub enum_told-1 : goal.enum_told-1
-enum_told-1 c = search (rules, places)
-
-pub returns-in-At : goal.returns-in-At
-returns-in-At c = search (rules, places)
-
-pub returns-in-Refused : goal.returns-in-Refused
-returns-in-Refused c = search (rules, places)
+pub returns-in-Err : goal.returns-in-Err
+returns-in-Err c = search (rules, places)

@@ -8,9 +8,6 @@ use Rattle.report.proofs.reporting.report_listed.Goals as goal
 pub returns-then-triples-ne0 : goal.returns-then-triples-ne0
 returns-then-triples-ne0 c = search (rules, reporting_listed)
 
-pub is_too_short-requires : goal.is_too_short-requires
-is_too_short-requires c = search (rules, reporting_listed)
-
 pub returns-then-is_too_short : goal.returns-then-is_too_short
 returns-then-is_too_short c = search (rules, reporting_listed)
 
@@ -22,12 +19,6 @@ slice_bounds-report_tested-end-2 c = sym (length-take-le _ _ (search (rules, rep
 
 pub report_tested-requires : goal.report_tested-requires
 report_tested-requires c = search (rules, reporting_listed)
-
-pub shape_of-work : goal.shape_of-work
-shape_of-work c = search (rules, reporting_listed)
-
-pub shape_of-out : goal.shape_of-out
-shape_of-out c = search (rules, reporting_listed)
 
 pub returns : goal.returns
 returns c = (search (rules, told_count), search (rules, told_out), search (rules, told_work))

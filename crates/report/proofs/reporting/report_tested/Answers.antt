@@ -3,9 +3,6 @@ use borrow.Author.Rules.{rules}
 use Rattle.report.proofs.ReportLaws.{reports}
 use Rattle.report.proofs.reporting.report_tested.Goals as goal
 
-pub gather-requires : goal.gather-requires
-gather-requires c = search (rules, reports)
-
 pub settle-n-requires : goal.settle-n-requires
 settle-n-requires c = search (rules, reports)
 
@@ -14,15 +11,6 @@ slice_bounds-fold-end c = search (rules, reports)
 
 pub slice_bounds-fold-end-2 : goal.slice_bounds-fold-end-2
 slice_bounds-fold-end-2 c = search (rules, reports)
-
-pub fold-requires : goal.fold-requires
-fold-requires c = search (rules, reports)
-
-pub shape_of-work : goal.shape_of-work
-shape_of-work c = search (rules, reports)
-
-pub shape_of-out : goal.shape_of-out
-shape_of-out c = search (rules, reports)
 
 pub returns : goal.returns
 returns c = search (rules, reports)

@@ -1,5 +1,5 @@
 -- `pen::stepped`: the turtle is near, so that it is not lost, and a byte has one symbol at most.
-use borrow.Author.Rules.{rules}
+use Rattle.std.proofs.Common.{inl, inr, rules}
 use Rattle.sketch.proofs.PutLaws.{stepping}
 use Rattle.sketch.proofs.pen.stepped.Goals as goal
 
@@ -16,7 +16,4 @@ pub returns-in-Turned : goal.returns-in-Turned
 returns-in-Turned c = search (rules, stepping)
 
 pub returns-in-NoDraw : goal.returns-in-NoDraw
-returns-in-NoDraw c = search (rules, stepping)
-
-pub returns-in-Lost : goal.returns-in-Lost
-returns-in-Lost c = search (rules, stepping)
+returns-in-NoDraw c = elim c.in-NoDraw.is [ inl e ↦ search (rules, stepping) | inr e ↦ search (rules, stepping) ]

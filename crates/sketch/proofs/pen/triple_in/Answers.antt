@@ -2,8 +2,8 @@
 use Rattle.sketch.proofs.PutLaws.{triple_at, triple_none}
 use Rattle.sketch.proofs.pen.triple_in.Goals as goal
 
-pub returns-in-At : goal.returns-in-At
-returns-in-At c = triple_at c.args.sum c.to_triple.ensures c.in-At.is
+pub returns-in-Ok : goal.returns-in-Ok
+returns-in-Ok c = triple_at c.args.sum c.to_triple.ensures c.in-Ok.is
 
-pub returns-in-Refused : goal.returns-in-Refused
-returns-in-Refused c = triple_none c.args.sum c.to_triple.ensures c.in-Refused.is c.new.ensures
+pub returns-in-Err : goal.returns-in-Err
+returns-in-Err c = triple_none c.args.sum c.to_triple.ensures c.in-Err.is c.new.ensures

@@ -6,6 +6,6 @@ pub returns-then-flip : goal.returns-then-flip
 unfolding facing
 returns-then-flip c = rw c.if-flip.true
 
-pub returns : goal.returns
+pub returns-else-flip : goal.returns-else-flip
 unfolding facing
-returns c = rw c.if-flip.false
+returns-else-flip c = rw c.if-flip.false

@@ -1,20 +1,8 @@
--- The digits one by one: those before i wrote `value`, and the rest of the word after it gives what the whole gives. The measure is what is left of the word.
+-- The digits one by one: those before the index wrote `value`, and the rest of the word after it gives what the whole gives.
 use native.Mathlib.Omega.{arith}
 use borrow.Author.Rules.{rules}
 use Rattle.text.proofs.NumberLaws.{word_laws, shifted_most}
 use Rattle.text.proofs.number.digits.Goals as goal
-
-pub nonzero_div-before : goal.nonzero_div-before
-nonzero_div-before c = search (rules, word_laws)
-
-pub loop-i-init : goal.loop-i-init
-loop-i-init c = search (rules, word_laws)
-
-pub bounds-word-i : goal.bounds-word-i
-bounds-word-i c = search (rules, word_laws)
-
-pub digit-d-requires : goal.digit-d-requires
-digit-d-requires c = search (rules, word_laws)
 
 pub returns-then-d-base : goal.returns-then-d-base
 returns-then-d-base c = search (rules, word_laws)
@@ -34,14 +22,8 @@ returns-then-d-most c = search (rules, word_laws)
 pub overflow_add-value : goal.overflow_add-value
 overflow_add-value c = omega (arith, shifted_most _ _ _ (omega arith) c.if-value-before.false)
 
-pub overflow_add-i : goal.overflow_add-i
-overflow_add-i c = search (rules, word_laws)
-
-pub loop-i-smaller : goal.loop-i-smaller
-loop-i-smaller c = search (rules, word_laws)
-
-pub loop-i-preserved : goal.loop-i-preserved
-loop-i-preserved c = search (rules, word_laws)
+pub loop-b-preserved : goal.loop-b-preserved
+loop-b-preserved c = search (rules, word_laws)
 
 pub returns : goal.returns
 returns c = search (rules, word_laws)

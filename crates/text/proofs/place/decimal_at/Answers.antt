@@ -9,11 +9,11 @@ returns-then-at-s c = search (rules, placed_laws)
 pub slice_bounds-wide_integer-end : goal.slice_bounds-wide_integer-end
 slice_bounds-wide_integer-end c = search (rules, placed_laws)
 
-pub returns-in_default : goal.returns-in_default
-returns-in_default c = search (rules, placed_laws)
+pub returns-in_err-z : goal.returns-in_err-z
+returns-in_err-z c = rw c.from_residual.ensures (search (rules, placed_laws, c.in_err-z.was))
 
 pub overflow_add-result : goal.overflow_add-result
-overflow_add-result c = search (rules, placed_laws)
+overflow_add-result c = search (rules, placed_laws, c.in_ok-z.was)
 
 pub returns : goal.returns
-returns c = search (rules, placed_laws)
+returns c = search (rules, placed_laws, c.in_ok-z.was)

@@ -6,8 +6,5 @@ use Rattle.text.proofs.put.place_after.Goals as goal
 pub returns-then-at-room : goal.returns-then-at-room
 returns-then-at-room c = search (rules, place_laws)
 
-pub returns-then-size-room : goal.returns-then-size-room
-returns-then-size-room c = search (rules, place_laws)
-
 pub returns : goal.returns
 returns c = search (rules, place_laws)

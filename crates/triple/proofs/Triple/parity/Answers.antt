@@ -6,9 +6,6 @@ use Rattle.triple.proofs.Triple.parity.Goals as goal
 pub returns-then-s-lt0 : goal.returns-then-s-lt0
 returns-then-s-lt0 c = search (rules, parities)
 
-pub returns-then-s-gt1 : goal.returns-then-s-gt1
-returns-then-s-gt1 c = search (rules, parities)
-
 pub overflow_cast-result : goal.overflow_cast-result
 overflow_cast-result c = parity_cast c.sum-s.result (search rules) c.if-s-lt0.false c.if-s-gt1.false
 

@@ -2,10 +2,9 @@
 use native.Mathlib.Omega.{arith}
 use mathlib.Core.Path.{refl}
 use borrow.Author.Rules.{rules}
-use mir.Syntax.{w64}
-use Rattle.whole.proofs.View.{view, v_unsigned, fits, eq_by}
+use Rattle.whole.proofs.View.{view, v_same, v_upto, fits, eq_by}
 use Rattle.turtle.specs.Corners.{candidate}
-use Rattle.turtle.proofs.CornerLaws.{triple_is}
+use Rattle.turtle.proofs.CornerLaws.{narrowed_by}
 use Rattle.turtle.proofs.LimitLaws.{near_of}
 use Rattle.turtle.proofs.WalkLaws.{v_small}
 use Rattle.turtle.proofs.corner.candidate.Goals as goal
@@ -17,19 +16,19 @@ overflow_add-x c =
 
 pub overflow_mul-x : goal.overflow_mul-x
 overflow_mul-x c =
-    let s = v_unsigned w64 c.args.s 1 c.requires.0 in
+    let s = v_same c.from-sum.ensures (v_upto c.args.s 1 c.requires.0) in
     fits (search view) tt
 
 pub overflow_add-x-2 : goal.overflow_add-x-2
 overflow_add-x-2 c =
     let b = v_small ((near_of c.args.p refl c.requires.1)).b in
-    let s = v_unsigned w64 c.args.s 1 c.requires.0 in
+    let s = v_same c.from-sum.ensures (v_upto c.args.s 1 c.requires.0) in
     fits (search view depth 9) tt
 
 pub nonzero_div-x : goal.nonzero_div-x
 nonzero_div-x c =
     let b = v_small ((near_of c.args.p refl c.requires.1)).b in
-    let s = v_unsigned w64 c.args.s 1 c.requires.0 in
+    let s = v_same c.from-sum.ensures (v_upto c.args.s 1 c.requires.0) in
     (search rules, fits (search view depth 12) tt)
 
 pub overflow_sub-y : goal.overflow_sub-y
@@ -39,32 +38,32 @@ overflow_sub-y c =
 
 pub overflow_mul-y : goal.overflow_mul-y
 overflow_mul-y c =
-    let s = v_unsigned w64 c.args.s 1 c.requires.0 in
+    let s = v_same c.from-sum.ensures (v_upto c.args.s 1 c.requires.0) in
     fits (search view) tt
 
 pub overflow_add-y : goal.overflow_add-y
 overflow_add-y c =
     let a = v_small ((near_of c.args.p refl c.requires.1)).a in
-    let s = v_unsigned w64 c.args.s 1 c.requires.0 in
+    let s = v_same c.from-sum.ensures (v_upto c.args.s 1 c.requires.0) in
     fits (search view depth 9) tt
 
 pub nonzero_div-y : goal.nonzero_div-y
 nonzero_div-y c =
     let a = v_small ((near_of c.args.p refl c.requires.1)).a in
-    let s = v_unsigned w64 c.args.s 1 c.requires.0 in
+    let s = v_same c.from-sum.ensures (v_upto c.args.s 1 c.requires.0) in
     (search rules, fits (search view depth 12) tt)
 
-pub overflow_sub-result : goal.overflow_sub-result
-overflow_sub-result c =
+pub overflow_sub-sum : goal.overflow_sub-sum
+overflow_sub-sum c =
     let b = v_small ((near_of c.args.p refl c.requires.1)).b in
-    let s = v_unsigned w64 c.args.s 1 c.requires.0 in
+    let s = v_same c.from-sum.ensures (v_upto c.args.s 1 c.requires.0) in
     fits (search view depth 12) tt
 
-pub overflow_sub-result-2 : goal.overflow_sub-result-2
-overflow_sub-result-2 c =
+pub overflow_sub-sum-2 : goal.overflow_sub-sum-2
+overflow_sub-sum-2 c =
     let a = v_small ((near_of c.args.p refl c.requires.1)).a in
     let b = v_small ((near_of c.args.p refl c.requires.1)).b in
-    let s = v_unsigned w64 c.args.s 1 c.requires.0 in
+    let s = v_same c.from-sum.ensures (v_upto c.args.s 1 c.requires.0) in
     fits (search view depth 16) tt
 
 pub returns : goal.returns
@@ -72,5 +71,5 @@ unfolding candidate
 returns c =
     let a = v_small ((near_of c.args.p refl c.requires.1)).a in
     let b = v_small ((near_of c.args.p refl c.requires.1)).b in
-    let s = v_unsigned w64 c.args.s 1 c.requires.0 in
-    triple_is (eq_by (search view depth 12) (search view depth 12) tt (omega arith)) (eq_by (search view depth 12) (search view depth 12) tt (omega arith)) (eq_by (search view depth 16) (search view depth 20) tt (omega arith))
+    let s = v_same c.from-sum.ensures (v_upto c.args.s 1 c.requires.0) in
+    narrowed_by _ _ (candidate c.args.s c.args.p) c.narrowed.ensures (eq_by (search view depth 12) (search view depth 12) tt (omega arith)) (eq_by (search view depth 12) (search view depth 12) tt (omega arith)) (eq_by (search view depth 16) (search view depth 20) tt (omega arith))

@@ -1,28 +1,25 @@
--- Shown by the bounds that are asked.
-use native.Mathlib.Omega.{arith}
-use mathlib.Core.Path.{◌∙◌}
-use Rattle.whole.proofs.View.{view, fits, eq_by}
-use Rattle.turtle.proofs.CornerLaws.{triple_is, wide, narrow_of, v_fits}
+-- Each coordinate by what was read of it.
+use borrow.Author.Rules.{rules}
+use Rattle.turtle.specs.Inside.Candidates.{narrowed}
+use Rattle.turtle.proofs.CornerLaws.{coordinate, narrowed_some}
 use Rattle.turtle.proofs.corner.narrowed.Goals as goal
 
-pub overflow_cast-x : goal.overflow_cast-x
-overflow_cast-x c =
-    let x = v_fits ((narrow_of (wide c.args.w) c.requires)).x in
-    fits (search view) tt
+pub returns-in_err-x : goal.returns-in_err-x
+unfolding narrowed
+returns-in_err-x c = search rules
 
-pub overflow_cast-y : goal.overflow_cast-y
-overflow_cast-y c =
-    let y = v_fits ((narrow_of (wide c.args.w) c.requires)).y in
-    fits (search view) tt
+pub returns-in_err-y : goal.returns-in_err-y
+unfolding narrowed
+returns-in_err-y c = search rules
 
-pub overflow_cast-z : goal.overflow_cast-z
-overflow_cast-z c =
-    let z = v_fits ((narrow_of (wide c.args.w) c.requires)).z in
-    fits (search view) tt
+pub returns-in_err-z : goal.returns-in_err-z
+unfolding narrowed
+returns-in_err-z c = search rules
 
 pub returns : goal.returns
 returns c =
-    let x = v_fits ((narrow_of (wide c.args.w) c.requires)).x in
-    let y = v_fits ((narrow_of (wide c.args.w) c.requires)).y in
-    let z = v_fits ((narrow_of (wide c.args.w) c.requires)).z in
-    c.new.ensures ∙ triple_is (eq_by (search view) x tt (omega arith)) (eq_by (search view) y tt (omega arith)) (eq_by (search view) z tt (omega arith))
+    narrowed_some c.args.x c.args.y c.args.z _ _ _
+    (coordinate _ _ _ _ c.ranges.x.sfits c.try_from.ensures c.ok.ensures.value c.in_ok-x.was)
+    (coordinate _ _ _ _ c.ranges.y.sfits c.try_from-2.ensures c.ok-2.ensures.value c.in_ok-y.was)
+    (coordinate _ _ _ _ c.ranges.z.sfits c.try_from-3.ensures c.ok-3.ensures.value c.in_ok-z.was)
+    _ c.new.ensures

@@ -15,4 +15,4 @@ add-sum-requires c =
     (subst Roomy (sym c.add.ensures) room.3, room.2)
 
 pub returns : goal.returns
-returns c = cell_at_lem _ _ _ c.corners_of-c.ensures c.add.ensures c.add-sum.ensures c.turned-flavor.ensures
+returns c = cell_at_lem _ _ _ c.corners_of-c.ensures c.add.ensures c.add-sum.ensures c.turned.ensures

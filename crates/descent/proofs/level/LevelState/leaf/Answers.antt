@@ -6,15 +6,15 @@ use lib.IntN.{pos}
 use Rattle.descent.proofs.LevelStateLaws.{sum_a, sum_b, flavor_is, asks, thrice_read, counted, counted_is, leaf_is}
 use Rattle.descent.proofs.level.LevelState.leaf.Goals as goal
 
-pub thrice_plus-requires : goal.thrice_plus-requires
-thrice_plus-requires c =
+pub times_plus-requires : goal.times_plus-requires
+times_plus-requires c =
     let n = c.requires in
-    asks c.args.self.a _ n.1.0.a (sum_a n.0 _ n.1.1) c.entry_at-a.ensures
+    (omega arith, asks c.args.self.a _ n.1.0.a (sum_a n.0 _ n.1.1) c.entry_at-a.ensures)
 
-pub thrice_plus-requires-2 : goal.thrice_plus-requires-2
-thrice_plus-requires-2 c =
+pub times_plus-requires-2 : goal.times_plus-requires-2
+times_plus-requires-2 c =
     let n = c.requires in
-    asks c.args.self.b _ n.1.0.b (sum_b n.0 _ n.1.1) c.entry_at-b.ensures
+    (omega arith, asks c.args.self.b _ n.1.0.b (sum_b n.0 _ n.1.1) c.entry_at-b.ensures)
 
 pub overflow_cast-result : goal.overflow_cast-result
 overflow_cast-result c =
@@ -28,6 +28,6 @@ returns c =
     let p = c.args.self in
     let k = flavor_is n.0 _ n.1.1 in
     leaf_is _ p _ _ n.1.1 c.new.ensures
-    (thrice_read p.a _ n.1.0.a (sum_a n.0 _ n.1.1) c.entry_at-a.ensures c.thrice_plus.ensures)
-    (thrice_read p.b _ n.1.0.b (sum_b n.0 _ n.1.1) c.entry_at-b.ensures c.thrice_plus-2.ensures)
+    (thrice_read p.a _ n.1.0.a (sum_a n.0 _ n.1.1) c.entry_at-a.ensures c.times_plus.ensures)
+    (thrice_read p.b _ n.1.0.b (sum_b n.0 _ n.1.1) c.entry_at-b.ensures c.times_plus-2.ensures)
     (ap pos (counted_is _ c.entry_at-flavor.ensures (omega (arith, k.0))) ∙ k.1)

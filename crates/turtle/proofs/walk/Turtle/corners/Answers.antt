@@ -9,10 +9,10 @@ pub returns-then-is_far : goal.returns-then-is_far
 returns-then-is_far c = corners_lost _ _ c.is_far.ensures c.if-is_far.true
 
 pub returns-in_default : goal.returns-in_default
-returns-in_default c = corners_none _ _ c.is_far.ensures c.if-is_far.false c.stroke_of-drawn.ensures c.in_default.is
+returns-in_default c = corners_none _ _ c.is_far.ensures c.if-is_far.false c.stroke_of.ensures c.in_default.is
 
 pub corners_of-requires : goal.corners_of-requires
-corners_of-requires c = (stroke_small _ (sym c.in-Draws.is ∙ c.stroke_of-drawn.ensures), near_of _ c.is_far.ensures c.if-is_far.false)
+corners_of-requires c = (stroke_small _ (sym c.in-Some.is ∙ c.stroke_of.ensures), near_of _ c.is_far.ensures c.if-is_far.false)
 
 pub returns : goal.returns
-returns c = corners_at _ _ c.is_far.ensures c.if-is_far.false c.stroke_of-drawn.ensures c.in-Draws.is c.corners_of.ensures
+returns c = corners_at _ _ c.is_far.ensures c.if-is_far.false c.stroke_of.ensures c.in-Some.is c.corners_of.ensures

@@ -15,10 +15,10 @@ pub returns-then-letter-eq45 : goal.returns-then-letter-eq45
 returns-then-letter-eq45 c = step_right _ _ c.is_far.ensures c.if-is_far.false c.if-letter-eq43.false c.if-letter-eq45.true
 
 pub returns-in_default : goal.returns-in_default
-returns-in_default c = step_none _ _ c.is_far.ensures c.if-is_far.false c.stroke_of-drawn.ensures c.if-letter-eq43.false c.if-letter-eq45.false c.in_default.is
+returns-in_default c = step_none _ _ c.is_far.ensures c.if-is_far.false c.stroke_of.ensures c.if-letter-eq43.false c.if-letter-eq45.false c.in_default.is
 
 pub drew-requires : goal.drew-requires
-drew-requires c = (stroke_small _ (sym c.in-Draws.is ∙ c.stroke_of-drawn.ensures), near_of _ c.is_far.ensures c.if-is_far.false)
+drew-requires c = (stroke_small _ (sym c.in-Some.is ∙ c.stroke_of.ensures), near_of _ c.is_far.ensures c.if-is_far.false)
 
 pub returns : goal.returns
-returns c = step_drew _ _ c.is_far.ensures c.if-is_far.false c.stroke_of-drawn.ensures c.if-letter-eq43.false c.if-letter-eq45.false c.in-Draws.is c.drew.ensures
+returns c = step_drew _ _ c.is_far.ensures c.if-is_far.false c.stroke_of.ensures c.if-letter-eq43.false c.if-letter-eq45.false c.in-Some.is c.drew.ensures

@@ -1,2 +1,0 @@
--- the buffer that the list is read into
-pub mod RoomLaws

@@ -1,7 +1,0 @@
--- `nets::ruled` writes the pass, since there is room for it.
-use Rattle.grammar.proofs.NetLaws.{netting}
-use borrow.Author.Rules.{rules}
-use Rattle.grammar.proofs.nets.ruled.Goals as goal
-
-pub returns : goal.returns
-returns c = search (rules, netting)

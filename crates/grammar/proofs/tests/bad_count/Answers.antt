@@ -1,7 +1,0 @@
--- `text::bad_count` is test 15.
-use Rattle.grammar.specs.Inside.Places.{line_at, lines_by}
-use Rattle.grammar.proofs.VerdictLaws.{count_verdict}
-use Rattle.grammar.proofs.tests.bad_count.Goals as goal
-
-pub returns : goal.returns
-returns c = count_verdict (lines_by c.args.text.now c.args.lines) (line_at c.args.text.now c.args.lines c.args.i) c.rule_of.ensures (c.rule_word.ensures c.args.text.now)

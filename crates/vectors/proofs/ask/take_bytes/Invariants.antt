@@ -1,9 +1,0 @@
--- What was taken lies within the buffer.
-use Rattle.std.proofs.Common.{◌-◌, ◌≤◌, length}
-use Rattle.vectors.proofs.ask.take_bytes.Given as goal
-
-abbrev pub invariant-loop-n : goal.invariant-loop-n
-invariant-loop-n l = l.n ≤ length l.bytes
-
-abbrev pub decreases-loop-n : goal.decreases-loop-n
-decreases-loop-n l = length l.bytes - l.n
