@@ -49,15 +49,25 @@ static void wkt_read(void) { hb_wkt_read(30, polygon, HB_WKT_BYTES, numbers, 6);
 static void descend(void) { hb_descend(table, HB_TABLE_NUMBERS, 0, 28, 30, 13, LAST, sums, 3); }
 static void compile(void) { hb_compile((const uint8_t *)A5, sizeof A5 - 1, table, HB_TABLE_NUMBERS, 0, out, 4); }
 
-/* Two positions that differ in the last bit alone, by turns, the greater first, and more of them than are put
- * in order without parting them: no report goes deeper. */
-static void area_report(void)
+/* Positions that differ in their lowest bits alone, more of them than are put in order without parting them:
+ * `values` of them, the greatest first, in steps, over and over. */
+static void report_of(int count, int values, int step)
 {
-    static uint64_t work[65];
-    static int32_t cells[3 * 65 + 1];
-    for (int k = 0; k < 65; k++)
-        hb_cell(5, 30, (k + 1) % 2, cells + 3 * k, 4);
-    hb_area_report(5, 30, cells, 3 * 65, work, 65, made, 192, out, 4);
+    static uint64_t work[128];
+    static int32_t cells[3 * 128 + 1];
+    for (int k = 0; k < count; k++)
+        hb_cell(5, 30, (uint64_t)((values - 1 - k % values) * step % values), cells + 3 * k, 4);
+    hb_area_report(5, 30, cells, 3 * (size_t)count, work, (size_t)count, made, 192, out, 4);
+}
+
+/* Two by turns: parted down to the last bit, at the greatest depth there is. */
+static void area_report(void) { report_of(65, 2, 1); }
+
+/* 64, each twice: parted down to the last six bits, where the library goes on with 64 at a time, in many orders. */
+static void area_report_mixed(void)
+{
+    for (int step = 1; step < 64; step += 2)
+        report_of(128, 64, step);
 }
 
 static void line(void)
@@ -92,6 +102,7 @@ static const struct {
     {"hb_area_contains", area_contains, 512},
     {"hb_area_size", area_size, 512},
     {"hb_area_report", area_report, 6144},
+    {"hb_area_report, mixed", area_report_mixed, 6144},
     {"hb_mend", mend, 512},
     {"hb_mend_step", mend_step, 512},
     {"hb_check", check, 9216},

@@ -192,8 +192,6 @@ module _ (o : Operation) (a b slice : List ℕ) where
       → (t ≡ valued (λ n. n / 2) (count_of (made_call o a b) slice)) × (out ≡ after_call (made_call o a b) slice)
   combined e s c = rw (s.0, s.1, s.2, taken e) at c
 
-pub ruleset combining_tests = (faulty_count, faulty_left)
-
 -- ---- and the room
 pub room_ample : (o : Operation) (a b : List ℕ) → passes 30 a ≡ 3 → passes 30 b ≡ 3
     → (room : ℕ) {enough : Bool} → enough ≡ ample o (length a / 2) (length b / 2) room → enough ≡ true → enough ≡ leb (length (made_of o a b)) room

@@ -43,10 +43,8 @@ pub fn combine(
 ) -> Result<usize, Refusal>
     ensures { (said result ≡ valued (λ n. n / 2) (count_of (made_call operation a.now b.now) out.old)) × (out.new ≡ after_call (made_call operation a.now b.now) out.old) }
 {
-    match Overlay::read(operation, a, b) {
-        Ok(overlay) => overlay.combine(out),
-        Err(fault) => Err(fault.into()),
-    }
+    let overlay = Overlay::read(operation, a, b)?;
+    overlay.combine(out)
 }
 
 impl Overlay<'_> {

@@ -12,10 +12,8 @@ use triple::refusal::Refusal;
 pub fn size(a: &[u64], resolution: u8) -> Result<u64, Refusal>
     ensures { said result ≡ size_call a.now resolution }
 {
-    match Cells::read(resolution, a) {
-        Ok(cells) => Ok(cells.count_positions()),
-        Err(fault) => Err(fault.into()),
-    }
+    let cells = Cells::read(resolution, a)?;
+    Ok(cells.count_positions())
 }
 
 // Whether an area covers all of a cell: nothing of the cell is left without the area.
@@ -23,8 +21,6 @@ pub fn contains(a: &[u64], resolution: u8, s: u64) -> Result<bool, Refusal>
     ensures { said result ≡ contains_call a.now resolution s }
 {
     let cell = [resolution as u64, s];
-    match Overlay::read(Operation::Difference, &cell, a) {
-        Ok(overlay) => Ok(overlay.count_cells() == 0),
-        Err(fault) => Err(fault.into()),
-    }
+    let overlay = Overlay::read(Operation::Difference, &cell, a)?;
+    Ok(overlay.count_cells() == 0)
 }

@@ -10,6 +10,7 @@ use crate::put::{lendable, put_count};
 use area::operation::Operation;
 
 // What an operation makes of two areas: the pairs to `pairs`, and how many cells they are to `count`.
+// Stays written out, as all of these functions: the C interface has one for each operation, with its own values and slices.
 fn combined(operation: Operation, a: &[u64], b: &[u64], pairs: &mut [u64], count: &mut [u64]) -> u8
     ensures { (result ≡ status_of (first_of (combined_call operation a.now b.now) count.old) pairs.old) × (pairs.new ≡ after_call (first_of (combined_call operation a.now b.now) count.old) pairs.old) × (count.new ≡ after_call (second_of (combined_call operation a.now b.now) pairs.old) count.old) }
 {

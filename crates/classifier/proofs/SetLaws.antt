@@ -1,6 +1,6 @@
 -- Sets of children, and the loops over their four digits.
 use mathlib.Core.Path.{◌≡◌, refl, sym, ap, ◌∙◌}
-use mathlib.Core.Bool.{Bool, true, false, not, ◌&&◌, ◌||◌, cond}
+use mathlib.Core.Bool.{Bool, true, false, not, ◌&&◌, ◌||◌, cond, beq}
 use mathlib.Core.List.{List, [], ◌∷◌}
 use Prim.Native.Nat.{ℕ, zero, suc, ◌+◌, ◌-◌, ◌<◌, ◌≤◌}
 use Prim.Native.Nat.compare
@@ -51,6 +51,12 @@ pub size_is : (gs : List Placed) (has : List Bool) {n : ℕ} → length has ≡ 
 size_is gs has long e = e ∙ size_from gs has 4 0 long
 
 -- ---- the side of a line
+pub on_side_lem : (b above : Bool) → beq b above ≡ on_side above b
+on_side_lem true true = refl
+on_side_lem true false = refl
+on_side_lem false true = refl
+on_side_lem false false = refl
+
 side_kept : (above : Bool) (s : Separator) (b : Bool) (g : Polygon) (gs : List Polygon)
     → kept (b && on_side above (over s g.corners)) g (polygons_on above s gs) ≡ polygons_on above s (kept b g gs)
 unfolding polygons_on

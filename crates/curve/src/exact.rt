@@ -9,6 +9,7 @@ ghost use Rattle.curve.specs.Inside.Parts.{Small, PartOf, parts_reach, rest_of};
 use crate::{LEADING, SIGN, WHOLE};
 
 // digits / 2^places, or that below 0.
+// Stays with `Small` in the contracts: what `rest_of` makes of one is none, since its digits can be as many as 2^places.
 #[derive(Clone, Copy)]
 pub(crate) struct Part {
     negative: bool,
@@ -61,6 +62,7 @@ fn lowest(digits: u64, places: u64) -> u64
 
 // Whether what p and q are above their floors sums to 1 at least. What is below 0 is 1 less its size above
 // its floor, but for 0 itself.
+// Stays nested tests: each leaf asks something else of the two, and one conjunction for all would say them twice.
 fn is_upper(p: Part, q: Part) -> bool
     requires { Small p × Small q }
     ensures { result ≡ parts_reach p q }

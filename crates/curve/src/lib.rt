@@ -31,6 +31,7 @@ impl PointCell {
     pub fn mark(self) -> u8
         ensures { result ≡ mark_of self }
     {
+        // Stays a test, as in the two below: `u8::from` of a truth says no more.
         if self.moved { 1 } else { 0 }
     }
 }
@@ -67,20 +68,14 @@ fn round(i: f64, j: f64, resolution: u8, exact: bool) -> Result<PointCell, Refus
 fn are_near(i: f64, j: f64) -> bool
     ensures { result ≡ (near i && near j) }
 {
-    if !is_near(i) {
-        return false;
-    }
-    is_near(j)
+    is_near(i) && is_near(j)
 }
 
 // Whether x is a number, and not beyond 2^31 in size. Each comparison is false of NaN.
 fn is_near(x: f64) -> bool
     ensures { result ≡ near x }
 {
-    if x >= -2147483648.0 {
-        return x <= 2147483648.0;
-    }
-    false
+    x >= -2147483648.0 && x <= 2147483648.0
 }
 
 fn rounded(i: f64, j: f64, last: u64, exact: bool) -> PointCell
@@ -168,7 +163,7 @@ fn parity_of(f: f64, g: f64) -> u64
 fn clamped(m: i64) -> i64
     ensures { result ≡ pos (clamped m) }
 {
-    if m < 0 { 0 } else { m }
+    m.max(0)
 }
 
 // By the floors as they are: a clamped one is never negative.
@@ -176,13 +171,7 @@ fn is_moved(m: i64, n: i64, parity: u64, last: u64) -> bool
     requires { (nat_abs m ≤ 2 ^ 31) × (nat_abs n ≤ 2 ^ 31) × (parity ≤ 1) × (last ≤ 2 ^ 30) }
     ensures { result ≡ is_moved last m n parity }
 {
-    if m < 0 {
-        return true;
-    }
-    if n < 0 {
-        return true;
-    }
-    m + n + parity as i64 > last as i64
+    m < 0 || n < 0 || m + n + parity as i64 > last as i64
 }
 
 fn last_row(resolution: u8) -> u64

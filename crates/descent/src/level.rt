@@ -9,7 +9,7 @@ use crate::TableCell;
 use turtle::AB;
 
 // A state, and where its frame starts, in units of its level.
-// Stays beside the table, what is known of both in the contracts (point 5): a struct of the two holds the table by reference, a loop takes such a struct apart, and its invariant says all of it again (tried); the room shrinks at each step.
+// Stays beside the table, what is known of both in the contracts: a struct of the two holds the table by reference, a loop takes such a struct apart, and its invariant says all of it again (tried); the room shrinks at each step.
 #[derive(Clone, Copy)]
 pub(crate) struct LevelState {
     pub a: i64,

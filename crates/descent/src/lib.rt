@@ -44,6 +44,7 @@ pub fn descend_table(
 }
 
 // The same of the part alone, which holds its states.
+// Stays one refusal after the other: each has its own number, in the order of the definition.
 fn descend_part(
     part: &[i32],
     states: usize,

@@ -12,6 +12,7 @@ mod svg;
 
 // An argument that is a number below 256; 255 where it is none, which is refused as it would be.
 fn number_at<E: Env>(rt: &E, i: usize) -> u8 {
+    // Stays a buffer: a longer word is no number below 256.
     let mut word = [0u8; 8];
     byte(argument(rt, i, &mut word)).unwrap_or(255)
 }

@@ -20,6 +20,10 @@ use Rattle.fold.specs.Unfolds.{shallow, inside, ordered, passes, passed_before, 
 use Rattle.fold.specs.Inside.Pairs.{refusal_at}
 use Rattle.whole.proofs.Bools.{both_true}
 use Rattle.fold.proofs.FoldAnswerLaws.{refused_count, refused_left}
+use Rattle.fold.specs.declared.pairs.Cells.{Cells}
+use Rattle.std.proofs.Common.{Result, Ok, Err}
+use Rattle.std.specs.Result.{MatchResult, IsErrAnd}
+use Rattle.triple.proofs.RefusalLaws.{err_is}
 use Rattle.fold.proofs.UnfoldLaws.{positions_of}
 
 -- ---- the room, of pairs that have passed their tests
@@ -154,6 +158,16 @@ module _ (o r : ℕ) (xs slice : List ℕ) where
 
     pub faulty_left : slice ≡ after_call (unfold_call o r xs) slice
     faulty_left = refused_left slice refuses
+
+-- what the reading of its pairs answers, each fault as the refusal that it is
+module _ (o : ℕ) {m : Result Cells Refusal} where
+  pub read_err : (x : Result Cells Fault) → MatchResult x (λ y. m ≡ Ok y) (λ fault. IsErrAnd m (λ d. d ≡ refusal_at o fault)) → {refusal : Refusal} → m ≡ Err refusal → (fault : Fault) × (x ≡ Err fault) × (refusal ≡ refusal_at o fault)
+  read_err (Ok y) h was = cc
+  read_err (Err fault) h was = let e = err_is (refusal_at o fault) m h in (fault, refl, cc)
+
+  pub read_ok : (x : Result Cells Fault) → MatchResult x (λ y. m ≡ Ok y) (λ fault. IsErrAnd m (λ d. d ≡ refusal_at o fault)) → {cells : Cells} → m ≡ Ok cells → x ≡ Ok cells
+  read_ok (Ok y) h was = cc
+  read_ok (Err fault) h was = let e = err_is (refusal_at o fault) m h in cc
 
 -- of a list that passes
 module _ (o r : ℕ) (xs slice : List ℕ) (e : 3 ≡ passes r xs) where

@@ -33,6 +33,7 @@ impl From<Fault> for Refusal {
 #[derive(Clone, Copy)]
 pub struct Cells<'a> {
     pub resolution: u8,
+    // Stays one flat list: C lends it so.
     pub pairs: &'a [u64],
     pub ghost tested: { passes resolution pairs.now ≡ 3 },
 }

@@ -21,10 +21,7 @@ pub fn unfold(
 ) -> Result<usize, Refusal>
     ensures { Counted (unfold_call orientation resolution pairs.now) out.old (said result) out.new }
 {
-    let cells = match Cells::read(resolution, pairs) {
-        Ok(cells) => cells,
-        Err(fault) => return Err(refusal_at(orientation, fault)),
-    };
+    let cells = Cells::read(resolution, pairs).map_err(|fault| refusal_at(orientation, fault))?;
     if orientation > GREATEST_ORIENTATION {
         return Err(Refusal::Orientation);
     }

@@ -45,6 +45,7 @@ fn fits(n: usize, most: usize) -> bool
     (1..=most).contains(&n)
 }
 
+// Stays one return after the other: each test cuts what the next one looks at.
 fn whole_row(row: &[u8]) -> Option<(usize, usize)>
     ensures { WholeRow row.now result }
 {

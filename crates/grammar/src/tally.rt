@@ -18,6 +18,7 @@ enum Kind {
 
 // What the bytes of a word come to: how many letters, the heading at the end, whether each letter
 // is met at heading 0 or 3, and whether each byte may stand there.
+// Stays flags beside the counts: a tally goes on behind a byte that may not stand there, for the test of the count.
 #[derive(Clone, Copy)]
 pub(crate) struct Tally {
     pub letters: usize,

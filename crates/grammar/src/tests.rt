@@ -108,7 +108,7 @@ impl Sheet<'_> {
     }
 
     // Whether line i is at fault by a test.
-    // Stays a match on names: a table of closures of seven types needs `dyn`, and says no more.
+    // Stays a match on names: a table of the seven says no more.
     fn is_bad(&self, test: Test, i: usize) -> bool
         requires { i < min self.now.lines.count 8 }
         ensures { result ≡ test_of (lines_in self.now) test (take i (lines_in self.now)) (line_in self.now i) }

@@ -15,7 +15,8 @@ pub trait Answers {
 }
 
 // Answers all lines of the input, or so many as can be read and answered. A line is kept as far as what is lent for
-// it goes. No input is so long that it uses up the turns.
+// it goes. No input is so long that it uses up the turns. It has no clause: what it does is done to the streams, of which a
+// contract cannot speak.
 pub fn answer_lines<A: Answers, R: Read, P: Print + Eprint>(
     answers: &A,
     from: &mut R,

@@ -71,6 +71,7 @@ fn main(rt: HostRuntime) {
         say_usage(&rt);
         return;
     }
+    // Stays two buffers of their own size: a longer name counts as none, which is said as no such file.
     let mut old = [0u8; 4096];
     let mut new = [0u8; 4096];
     let old = argument(&rt, 1, &mut old);

@@ -4,23 +4,20 @@ use mathlib.Core.Path.{◌≡◌, refl, sym, ap, ◌∙◌}
 use mathlib.Core.Bool.{Bool, true, false, not, cond, ◌&&◌}
 use mathlib.Core.List.{List, [], ◌∷◌}
 use Prim.Native.Nat.{ℕ, suc, ◌+◌, ◌≤◌, ◌<◌, ◌^◌}
-use native.Mathlib.Numerals.{add-one}
-use borrow.Author.Rules.{sfits_of}
-use borrow.Author.Tests.{not-true, not-false, eq-eqb, ne_eqb, lt-ltb, le-ltb, le-leb}
+use borrow.Author.Tests.{not-true, not-false, lt-ltb, le-ltb, le-leb}
 use lib.Dec.{leb, eqb}
+use lib.Pointwise.{pointwise}
 use lib.IntN.{ℤ, pos, negsuc}
 use lib.Signed.{mag, quot_z}
-use lib.ListN.{length, get_or, take, drop, length-append, length-drop, drop_of_length-le}
-use lib.Seq.{drop-cons, length-take-le}
-use mir.Syntax.{w32, w64}
-use mir.Val.{SFits, Fits, to_z, of_z}
-use mir.ValLaws.{to_z-of_z}
+use lib.ListN.{length, take, drop, length-append, length-drop}
+use lib.Seq.{length-take-le}
+use mir.Syntax.{w64}
+use mir.Val.{Fits}
 use Rattle.std.specs.Prelude.{Some, None, Option}
 use Rattle.whole.specs.Tests.{equal, pass}
 use Rattle.whole.proofs.Bools.{is_true, is_false}
 use Rattle.whole.proofs.Equals.{equal_sound, is_equal}
-use Rattle.whole.proofs.TestLaws.{pass_true}
-use Rattle.whole.proofs.View.{view, v_var, v_within, fits, eq_by}
+use Rattle.whole.proofs.View.{view, v_var, fits, eq_by}
 use Rattle.triple.specs.declared.Triple.{Triple}
 use Rattle.triple.specs.declared.refusal.Refusal.TheVariants as Is
 use Rattle.triple.specs.Refusals.{Told, told, refused, refuse, number_of}
@@ -34,8 +31,8 @@ use Rattle.text.proofs.PlaceLaws.{past_unread}
 use Rattle.text.proofs.ReadBack.{decimal_read_only}
 use Rattle.turtle.specs.declared.AB.{AB}
 use Rattle.turtle.specs.Plane.{ab}
-use Rattle.turtle.specs.Corners.{fits32, ThreeI32}
-use Rattle.turtle.proofs.CornerLaws.{triple, triple_is, sum_good, narrow_of, wide_x, wide_y, wide_z}
+use Rattle.turtle.specs.Corners.{fits32, narrowed, ThreeI32}
+use Rattle.turtle.proofs.CornerLaws.{sum_good, narrow_of}
 use Rattle.polygon.specs.Polygons.{polygon_text, readable, corner_at, parity_from, starting_at, narrow, same_text, spelled_cell, cell_of_wkt}
 use Rattle.polygon.proofs.SpellLaws.{spelled_most, spelled_is}
 
@@ -116,42 +113,13 @@ pub parity_small : (p q : AB) {s : ℕ} → s ≡ parity_from p q → s ≤ 1
 parity_small p q e = omega (arith, parity_most p q)
 
 -- ---- three i32
-by_flag : Triple → Bool → Told Triple
-by_flag t f = refuse (not f) Is.Polygon (told t)
-
-abbrev read : ℤ → ℤ
-read v = to_z w64 (of_z w64 v)
-
-pub narrow_cast : (v : ℤ) (f : Bool) → f ≡ pass (fits32 v []) → not f ≡ false → SFits w32 v
-narrow_cast v f e n = let h = pass_true (fits32 v []) (sym e ∙ not-false f n) in fits (v_within 2147483648 2147483647 h.0 h.1.0) tt
-
-module _ (x y z : ℤ) (f : Bool) (mx : mag x < 2 ^ 63) (ef : f ≡ pass (fits32 (read x) [])) where
-  too_wide : false ≡ pass (fits32 x (fits32 y (fits32 z []))) → refused (number_of Is.Polygon) ≡ narrow (triple x y z)
-  unfolding narrow by_flag
-  too_wide e = ap (by_flag (triple x y z)) e
-
-  pub x_wide : not f ≡ true → refused (number_of Is.Polygon) ≡ narrow (triple x y z)
-  x_wide n = too_wide (wide_x x y z f mx ef n)
-
-  module _ (g : Bool) (my : mag y < 2 ^ 63) (eg : g ≡ pass (fits32 (read y) [])) (n : not f ≡ false) where
-    pub y_wide : not g ≡ true → refused (number_of Is.Polygon) ≡ narrow (triple x y z)
-    y_wide m = too_wide (wide_y x y z f mx ef g my eg n m)
-
-    module _ (h : Bool) (mz : mag z < 2 ^ 63) (eh : h ≡ pass (fits32 (read z) [])) (m : not g ≡ false) where
-      all_three : h ≡ pass (fits32 x (fits32 y (fits32 z [])))
-      all_three = wide_z x y z f mx ef g my eg n h mz eh m
-
-      pub z_wide : not h ≡ true → refused (number_of Is.Polygon) ≡ narrow (triple x y z)
-      z_wide k = too_wide (sym (not-true h k) ∙ all_three)
-
-      pub all_narrow : not h ≡ false → {t : Triple} → t ≡ triple (to_z w32 (of_z w32 (read x))) (to_z w32 (of_z w32 (read y))) (to_z w32 (of_z w32 (read z))) → told t ≡ narrow (triple x y z)
-      unfolding narrow by_flag
-      all_narrow k e =
-          ap told (e ∙ triple_is
-          (to_z-of_z w32 (read x) (narrow_cast (read x) f ef n) ∙ to_z-of_z w64 x (sfits_of mx))
-          (to_z-of_z w32 (read y) (narrow_cast (read y) g eg m) ∙ to_z-of_z w64 y (sfits_of my))
-          (to_z-of_z w32 (read z) (narrow_cast (read z) h eh k) ∙ to_z-of_z w64 z (sfits_of mz)))
-          ∙ ap (by_flag (triple x y z)) (sym (not-false h k) ∙ all_three)
+pub narrow_is : (t : Triple) → readable (narrowed t) ≡ narrow t
+unfolding narrow narrowed
+narrow_is t = go (pass (fits32 t.x (fits32 t.y (fits32 t.z []))))
+  where
+    go : (f : Bool) → readable (cond f (Some t) None) ≡ refuse (not f) Is.Polygon (told t)
+    go true = refl
+    go false = refl
 
 pub narrow_told : (t : Triple) {u : Triple} → narrow t ≡ told u → (ThreeI32 t) × (t ≡ u)
 unfolding narrow
@@ -159,8 +127,6 @@ narrow_told t e =
     let flag = pass (fits32 t.x (fits32 t.y (fits32 t.z []))) in
     let p = passed (not flag) Is.Polygon e in
     (narrow_of t (not-false flag p.0), told_same p.1)
-
-pub ruleset narrowing = (narrow_cast, x_wide, y_wide, z_wide, all_narrow)
 
 -- ---- the triple that starts at a corner
 pub start_good : (s : ℕ) (p : AB) → s ≤ 1 → good_sum (starting_at s p) ≡ true
@@ -170,45 +136,13 @@ start_good s p h =
     let y = v_var (quot_z p.a (pos 4)) in
     sum_good (starting_at s p) s h (eq_by (search view depth 9) (search view) tt (omega arith))
 
--- ---- two texts, byte by byte
-module _ (u v : List ℕ) where
-  pub same_start : same_text (drop 0 u) (drop 0 v) ≡ same_text u v
-  same_start = refl
-
-  module _ (i : ℕ) (inv : same_text (drop i u) (drop i v) ≡ same_text u v) (long : length u ≡ length v) where
-    pub same_end : i ≤ length v → length v ≤ i → true ≡ same_text u v
-    unfolding same_text
-    same_end h k = rw (drop_of_length-le u {i = i} (omega arith), drop_of_length-le v k) at inv
-
-    module _ (h : i < length v) where
-      split : same_text (drop i u) (drop i v) ≡ eqb (get_or u i 0) (get_or v i 0) && same_text (drop (suc i) u) (drop (suc i) v)
-      unfolding same_text
-      split = rw (drop-cons u i 0 (omega arith), drop-cons v i 0 h)
-
-      pub same_more : get_or u i 0 ≡ get_or v i 0 → same_text (drop (i + 1) u) (drop (i + 1) v) ≡ same_text u v
-      same_more e = rw add-one (sym (split ∙ rw (eq-eqb (get_or u i 0) (get_or v i 0) e)) ∙ inv)
-
-      pub same_stop : (get_or u i 0 ≡ get_or v i 0 → ⊥) → false ≡ same_text u v
-      same_stop e = sym (split ∙ rw (ne_eqb (get_or u i 0) (get_or v i 0) e)) ∙ inv
-
-lengths_differ : (u v : List ℕ) → (length u ≡ length v → ⊥) → false ≡ same_text u v
+-- ---- the library's test of two slices is the definition's
+pub same_slices : (u v : List ℕ) → pointwise eqb u v ≡ same_text u v
 unfolding same_text
-lengths_differ [] [] n = absurd (n refl)
-lengths_differ [] (b ∷ v) n = refl
-lengths_differ (a ∷ u) [] n = refl
-lengths_differ (a ∷ u) (b ∷ v) n = go (eqb a b) (lengths_differ u v (λ e. n (ap suc e)))
-  where
-    go : (f : Bool) → false ≡ same_text u v → false ≡ (f && same_text u v)
-    go true e = e
-    go false e = refl
-
-pub shorter : (u v : List ℕ) → length u < length v → false ≡ same_text u v
-shorter u v h = lengths_differ u v (λ e. omega arith)
-
-pub longer : (u v : List ℕ) → length v < length u → false ≡ same_text u v
-longer u v h = lengths_differ u v (λ e. omega arith)
-
-pub ruleset same_texts = (same_start, same_end, same_more, same_stop, shorter, longer)
+same_slices [] [] = refl
+same_slices [] (b ∷ v) = refl
+same_slices (a ∷ u) [] = refl
+same_slices (a ∷ u) (b ∷ v) = ap (λ t. eqb a b && t) (same_slices u v)
 
 -- ---- a triple's own polygon, spelled aside, against a text
 module _ (t : Triple) (good : good_sum t ≡ true) (mx : mag t.x < 2 ^ 31) (my : mag t.y < 2 ^ 31) (mz : mag t.z < 2 ^ 31) {zeros own : List ℕ} {n : ℕ} (room : length zeros ≡ 110) (w : Put zeros 0 (polygon_text t) own n) where
@@ -218,8 +152,8 @@ module _ (t : Triple) (good : good_sum t ≡ true) (mx : mag t.x < 2 ^ 31) (my :
   pub own_counted : n ≡ length (take n own)
   own_counted = sym (length-take-le n own own_most)
 
-  pub own_same : (text : List ℕ) {f : Bool} → f ≡ same_text text (take n own) → f ≡ same_text text (polygon_text t)
-  own_same text e = e ∙ ap (same_text text) (spelled_is t good mx my mz room w)
+  pub own_same : (text : List ℕ) {f : Bool} → f ≡ pointwise eqb text (take n own) → f ≡ same_text text (polygon_text t)
+  own_same text e = e ∙ same_slices text (take n own) ∙ ap (same_text text) (spelled_is t good mx my mz room w)
 
 pub ruleset own_polygon = (own_most, own_counted, own_same)
 

@@ -35,6 +35,7 @@ pub fn write(resolution: u8, t: Triple, out: &mut [u8]) -> Result<usize, Refusal
     ensures { (said result ≡ count_of (wkt_of resolution t) out.old) × (out.new ≡ after_call (wkt_of resolution t) out.old) }
 {
     t.flavor(resolution)?;
+    // Stays a buffer and its length: no heap. It is read as a slice at once.
     let mut text = [0u8; 110];
     let n = spell(&mut text, t);
     let end = put_bytes(out, 0, &text[..n]);

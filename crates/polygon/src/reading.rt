@@ -1,14 +1,13 @@
 // The triple whose polygon a text is, if it is one's.
-ghost use Rattle.std.specs.Prelude.{◌≡◌, true, [], ◌≤◌};
-ghost use Rattle.whole.specs.Tests.{pass};
+ghost use Rattle.std.specs.Prelude.{◌≡◌, true, ◌≤◌};
 ghost use Rattle.triple.specs.Triples.{good_sum};
-ghost use Rattle.turtle.specs.Corners.{fits32};
 ghost use Rattle.polygon.specs.Polygons.{readable, polygon_text, corner_at, parity_from, starting_at, narrow, same_text, spelled_cell};
 
 use crate::spelling::spell;
 use text::place::decimal_at;
 use triple::Triple;
 use turtle::AB;
+use turtle::corner::narrowed;
 
 fn corner_at(text: &[u8], at: usize) -> Option<(AB, usize)>
     ensures { readable result ≡ corner_at text.now at }
@@ -32,31 +31,6 @@ fn parity_from(p: AB, q: AB) -> u8
     0
 }
 
-fn fits_i32(v: i64) -> bool
-    ensures { result ≡ pass (fits32 v []) }
-{
-    if v < -2147483648 {
-        return false;
-    }
-    v <= 2147483647
-}
-
-// The triple of three numbers, where each is an i32.
-fn narrowed(x: i64, y: i64, z: i64) -> Option<Triple>
-    ensures { readable result ≡ narrow (record { x = x; y = y; z = z }) }
-{
-    if !fits_i32(x) {
-        return None;
-    }
-    if !fits_i32(y) {
-        return None;
-    }
-    if !fits_i32(z) {
-        return None;
-    }
-    Some(Triple::new(x as i32, y as i32, z as i32))
-}
-
 // The only triple of sum s whose cell can start at p.
 fn starting_at(s: u8, p: AB) -> Option<Triple>
     requires { s ≤ 1 }
@@ -70,32 +44,13 @@ fn starting_at(s: u8, p: AB) -> Option<Triple>
     narrowed(x, y, sum - x - y)
 }
 
-fn same_text(u: &[u8], v: &[u8]) -> bool
-    ensures { result ≡ same_text u.now v.now }
-{
-    if u.len() < v.len() {
-        return false;
-    }
-    if u.len() > v.len() {
-        return false;
-    }
-    let mut i: usize = 0;
-    while i < v.len() {
-        if u[i] != v[i] {
-            return false;
-        }
-        i += 1;
-    }
-    true
-}
-
 fn is_polygon(text: &[u8], t: Triple) -> bool
     requires { good_sum t ≡ true }
     ensures { result ≡ same_text text.now (polygon_text t) }
 {
     let mut own = [0u8; 110];
     let n = spell(&mut own, t);
-    same_text(text, &own[..n])
+    text == &own[..n]
 }
 
 // The first two corners leave one triple, whose polygon is the text or is not: so no other spelling is

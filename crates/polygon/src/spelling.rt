@@ -11,6 +11,7 @@ use triple::Triple;
 use turtle::AB;
 
 // A number takes at most 11 bytes: so a corner at most 23, and a polygon at most 110.
+// Stays with the size in the contracts: a pair with a type of its own would be made of four corners, for one use each.
 fn put_corner(out: &mut [u8], at: usize, lead: &[u8], p: AB) -> usize
     requires { TenDigits p × (at + (length lead.now + 23) ≤ length out.old) }
     ensures { Put out.old at (lead.now ++ corner_text p) out.new result }

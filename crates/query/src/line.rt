@@ -68,22 +68,10 @@ pub fn read_line(line: &[u8]) -> Result<Query, Refusal>
     let Some(r) = number::byte(word(line, 2)) else {
         return Err(Refusal::Line);
     };
-    if letter == b'P' {
-        if words == 4 {
-            return position_query(line, o, r);
-        }
-        return Err(Refusal::Line);
+    match (letter, words) {
+        (b'P', 4) => position_query(line, o, r),
+        (b'C', 6) => cell_query(line, o, r),
+        (b'R', 5) => point_query(line, o, r),
+        _ => Err(Refusal::Line),
     }
-    if letter == b'C' {
-        if words == 6 {
-            return cell_query(line, o, r);
-        }
-        return Err(Refusal::Line);
-    }
-    if letter == b'R' {
-        if words == 5 {
-            return point_query(line, o, r);
-        }
-    }
-    Err(Refusal::Line)
 }

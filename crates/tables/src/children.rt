@@ -7,7 +7,7 @@ use crate::{Child, Source};
 use grammar::lines::is_listed;
 
 // The first `count` children of a rule, and the heading behind them.
-// Stays an array with a count (buffers): no heap.
+// Stays an array with a count: no heap.
 #[derive(Clone, Copy)]
 struct RuleChildren {
     children: [Child; 4],

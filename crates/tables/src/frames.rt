@@ -84,7 +84,7 @@ impl State<'_> {
         requires { map point_of at ≡ starts (lines_of self.now.grammar.now.text.now) self.now.token self.now.flip }
         ensures { polygons_of result ≡ polygons (lines_of self.now.grammar.now.text.now) self.now.token self.now.flip }
     {
-        // Stays four calls (twins): with array::from_fn the proof of what it asks at each index did not close; a loop has to fill the array with other footprints first.
+        // Stays four calls: with array::from_fn the proof of what it asks at each index did not close; a loop has to fill the array with other footprints first.
         let first = self.grammar.placed(self.children[0], at[0], self.flip);
         let second = self.grammar.placed(self.children[1], at[1], self.flip);
         let third = self.grammar.placed(self.children[2], at[2], self.flip);

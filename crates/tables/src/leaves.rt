@@ -13,7 +13,7 @@ use turtle::AB;
 use turtle::walk::{Corners, DrawnCell, Stepped, Turtle, Unhosted};
 
 // The turtle, and the first `count` cells that it drew. Each stroke takes it at most 8 further.
-// Stays an array with a count (buffers): no heap. The corners stay by themselves: `hull_of` takes the twelve.
+// Stays an array with a count: no heap. The corners stay by themselves: `hull_of` takes the twelve.
 #[derive(Clone, Copy)]
 struct CellWalk {
     turtle: Turtle,

@@ -28,7 +28,7 @@ pub(crate) struct Child {
 }
 
 // A text's lines and its tokens: the motifs in letter order, then their lowercase forms.
-// Stays an array with a count (buffers): no heap.
+// Stays an array with a count: no heap.
 #[derive(Clone, Copy)]
 pub(crate) struct Source {
     pub lines: Lines,

@@ -14,7 +14,7 @@ fn state_of(child: Child, flip: bool) -> i32
     (2 * child.token + usize::from(flipped(flip, child.flip))) as i32
 }
 
-// Stays beside `factor_at` (twins): this one picks of two bytes, that one of three numbers.
+// Stays beside `factor_at`: this one picks of two bytes, that one of three numbers.
 fn coordinate_at(c: Corner, j: usize) -> i32
     ensures { result ≡ coordinate_at c j }
 {
@@ -32,6 +32,7 @@ fn factor_at(s: Separator, j: usize) -> i32
 }
 
 // Number j of a state.
+// Stays by the place of a number: so is its definition, and so the table is read.
 #[tactic(auto, using(crate::proofs::StateNumberLaws::numbered))]
 fn number_at(parts: StateParts, j: usize) -> i32
     requires { j < 41 }

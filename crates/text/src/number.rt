@@ -43,6 +43,7 @@ fn digits(word: &[u8], base: u64, most: u64) -> Option<u64>
     let mut value: u64 = 0;
     for b in word {
         let d = digit(*b);
+        // Stays two tests: that it is no digit is one thing, that it is one too many another.
         if d >= base {
             return None;
         }

@@ -22,6 +22,7 @@ fn place_after(room: usize, at: usize, size: usize) -> usize
     at + size
 }
 
+// Stays a place beside what is lent, here and below: the place after each text is what these functions answer.
 pub fn put(out: &mut [u8], at: usize, b: u8) -> usize
     ensures { Put out.old at (b ∷ []) out.new result }
 {

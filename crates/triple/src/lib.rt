@@ -109,5 +109,6 @@ fn color(t: Triple, resolution: u8) -> u8
     ensures { result ≡ color_of resolution t }
 {
     let rows = (max_row(resolution) + 1 + (t.x as i64) + (t.z as i64)) % 2;
+    // Stays a test: `u8::from` of it says no more.
     if rows == 0 { 0 } else { 1 }
 }

@@ -36,6 +36,7 @@ pub enum Refusal {
 }
 
 impl Refusal {
+    // Stays a match: these are the numbers that C and README.md name.
     pub fn number(self) -> u8
         ensures { result ≡ number_of self }
     {

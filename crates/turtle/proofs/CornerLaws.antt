@@ -29,8 +29,8 @@ use Rattle.triple.specs.Triples.{sum_of, good_sum, parity_of}
 use Rattle.turtle.specs.declared.AB.{AB}
 use Rattle.turtle.specs.Plane.{far}
 use Rattle.turtle.specs.Inside.Sizes.{Within}
-use Rattle.turtle.specs.Corners.{corner_sum, corner_sum_of, candidate, has_corner_sum, fits32, same, triple_of, FitsI32, ThreeI32, HasTriple}
-use Rattle.turtle.specs.Inside.Candidates.{narrowed, with_sum}
+use Rattle.turtle.specs.Corners.{corner_sum, corner_sum_of, candidate, has_corner_sum, fits32, same, triple_of, FitsI32, ThreeI32, HasTriple, narrowed}
+use Rattle.turtle.specs.Inside.Candidates.{with_sum}
 use Rattle.turtle.proofs.LimitLaws.{far_false}
 
 -- ---- the flag that a comparison gives is the one to return

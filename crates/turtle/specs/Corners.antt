@@ -1,5 +1,5 @@
 -- The corner sum of a triple's cell, and the triple that has a corner sum.
-use Rattle.std.specs.Prelude.{◌≡◌, Bool, true, false, not, cond, List, [], ◌∷◌, ℕ, ◌*◌, ℤ, pos, negsuc, ◌+ℤ◌, ◌-ℤ◌, ◌*ℤ◌, ◌≤ℤ◌}
+use Rattle.std.specs.Prelude.{Option, Some, None, ◌≡◌, Bool, true, false, not, cond, List, [], ◌∷◌, ℕ, ◌*◌, ℤ, pos, negsuc, ◌+ℤ◌, ◌-ℤ◌, ◌*ℤ◌, ◌≤ℤ◌}
 use Rattle.std.specs.Int.Signed.{quot_z}
 use Rattle.whole.specs.Tests.{Test, ◌≤?◌, pass}
 use Rattle.triple.specs.declared.Triple.{Triple}
@@ -20,6 +20,10 @@ corner_sum_of t = refuse (not (good_sum t)) Sum (told (corner_sum t))
 -- each coordinate is an i32
 abbrev pub fits32 : ℤ → List Test → List Test
 fits32 v l = (negsuc 2147483647 ≤? v) ∷ (v ≤? pos 2147483647) ∷ l
+
+-- the triple, where each of its coordinates is an i32
+unfoldable pub narrowed : Triple → Option Triple
+narrowed t = cond (pass (fits32 t.x (fits32 t.y (fits32 t.z [])))) (Some t) None
 
 -- the two pairs are the same
 abbrev pub same : AB → AB → List Test → List Test

@@ -1,7 +1,7 @@
 // The exact map between a triple and the corner sum of its cell.
 ghost use Rattle.std.specs.Prelude.{◌≡◌, false, ◌≤◌};
-ghost use Rattle.turtle.specs.Corners.{corner_sum, corner_sum_of, candidate, triple_of};
-ghost use Rattle.turtle.specs.Inside.Candidates.{narrowed, with_sum};
+ghost use Rattle.turtle.specs.Corners.{corner_sum, corner_sum_of, candidate, narrowed, triple_of};
+ghost use Rattle.turtle.specs.Inside.Candidates.{with_sum};
 ghost use Rattle.turtle.specs.Plane.{far};
 ghost use Rattle.triple.specs.Refusals.{said};
 
@@ -30,7 +30,7 @@ fn sum_of_corners(t: Triple) -> AB
 }
 
 // The triple with these coordinates, where each is an i32.
-fn narrowed(x: i64, y: i64, z: i64) -> Option<Triple>
+pub fn narrowed(x: i64, y: i64, z: i64) -> Option<Triple>
     ensures { result ≡ narrowed (record { x = x; y = y; z = z }) }
 {
     let x = i32::try_from(x).ok()?;

@@ -16,6 +16,7 @@ pub struct Stroke {
     pub flavor: Option<u8>,
 }
 
+// Stays a match: it is a table, and each row is proved by its arm.
 pub fn stroke_of(letter: u8) -> Option<Stroke>
     ensures { result ≡ stroke_of letter }
 {

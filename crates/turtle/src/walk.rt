@@ -28,6 +28,7 @@ pub struct Corners {
 }
 
 // `Lost`: the turtle is beyond `AB::LIMIT`, far from every cell that is in bounds.
+// Stays an enum: two of its four outcomes are answers, and a byte that draws nothing is no error of a walk.
 #[derive(Clone, Copy)]
 pub enum Stepped {
     Drew(DrawnCell, Turtle),
@@ -86,6 +87,8 @@ impl Turtle {
     }
 }
 
+// Stays with sizes in the contracts: pairs of three sizes meet in one sum, and a type for each would be made and
+// taken apart at every call.
 fn drew(s: Stroke, at: AB, heading: u8) -> Stepped
     requires { SmallStroke s × Near at }
     ensures { result ≡ step_by (letter s ∷ []) (turtle at heading) }

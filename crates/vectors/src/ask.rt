@@ -62,6 +62,7 @@ pub(crate) fn reading(words: Words<'_>, out: &mut Answer<'_>) -> Result<(), Faul
 }
 
 // The bytes that the words after the first write, up to one that is none; answers how many.
+// Stays a count: the loop that lends the bytes one by one cannot answer a part of them.
 fn take_bytes(words: Words<'_>, bytes: &mut [u8]) -> usize
     ensures { result ≤ length bytes.old }
 {

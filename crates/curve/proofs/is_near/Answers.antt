@@ -8,6 +8,6 @@ pub returns-then-x : goal.returns-then-x
 unfolding of_bits neg
 returns-then-x c = search (rules, nearness)
 
-pub returns : goal.returns
+pub returns-else-x : goal.returns-else-x
 unfolding of_bits neg
-returns c = search (rules, nearness)
+returns-else-x c = search (rules, nearness)

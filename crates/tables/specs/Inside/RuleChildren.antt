@@ -9,7 +9,7 @@ use Rattle.tables.specs.declared.children.RuleChildren.{RuleChildren}
 use Rattle.tables.specs.Children.{children_along}
 use Rattle.tables.specs.Inside.Sources.{letters_in}
 
--- a rule's byte and a rule's bytes, as `childOf` and `childrenOf` have them of the lines
+-- a rule's byte and a rule's bytes, as `rule_symbol` and `rule_symbols` have them of the lines
 unfoldable pub rule_symbol_by : Source → ℕ → List (Sym ℕ)
 rule_symbol_by s b =
     cond (eqb b 43) (left ∷ [])

@@ -1,13 +1,8 @@
 -- What is answered of a triple that can have a corner sum.
-use Rattle.std.specs.Prelude.{cond, [], ℕ, Option, Some, None}
-use Rattle.whole.specs.Tests.{pass}
+use Rattle.std.specs.Prelude.{cond, ℕ, Option, Some, None}
 use Rattle.triple.specs.declared.Triple.{Triple}
 use Rattle.turtle.specs.declared.AB.{AB}
-use Rattle.turtle.specs.Corners.{candidate, has_corner_sum, fits32}
-
--- the triple, where each coordinate is an i32
-unfoldable pub narrowed : Triple → Option Triple
-narrowed t = cond (pass (fits32 t.x (fits32 t.y (fits32 t.z [])))) (Some t) None
+use Rattle.turtle.specs.Corners.{candidate, has_corner_sum}
 
 -- the candidate of sum s, where it has the corner sum p
 abbrev pub with_sum : ℕ → AB → Option Triple

@@ -1,10 +1,14 @@
 -- `combine`: by the reading of both lists.
-use Rattle.std.proofs.Common.{rules}
-use Rattle.area.proofs.AnswerLaws.{combining_tests, combined}
+use Rattle.std.proofs.Common.{refl, ◌∙◌}
+use Rattle.triple.proofs.RefusalLaws.{handed_on}
+use Rattle.fold.specs.Unfolds.{refusal_for}
+use Rattle.area.proofs.AnswerLaws.{faulty_count, faulty_left, combined}
 use Rattle.area.proofs.combining.combine.Goals as goal
 
-pub returns-in-Ok : goal.returns-in-Ok
-returns-in-Ok c = combined _ _ _ _ c.in-Ok.ensures.passed c.in-Ok.ensures.same c.combine.ensures
+pub returns-in_err-overlay : goal.returns-in_err-overlay
+returns-in_err-overlay c =
+    let fault = c.in_err-overlay.field-0.0 in
+    (handed_on (refusal_for fault) _ c.from_residual.ensures.1 ∙ faulty_count _ _ _ _ fault c.in_err-overlay.ensures.passed refl, faulty_left _ _ _ _ fault c.in_err-overlay.ensures.passed refl)
 
-pub returns-in-Err : goal.returns-in-Err
-returns-in-Err c = let e = c.in-Err.ensures.passed in search (rules, combining_tests)
+pub returns : goal.returns
+returns c = combined _ _ _ _ c.in_ok-overlay.ensures.passed c.in_ok-overlay.ensures.same c.combine.ensures

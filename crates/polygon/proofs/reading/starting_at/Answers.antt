@@ -5,7 +5,8 @@ use mathlib.Core.Path.{ap, ◌∙◌}
 use mir.Syntax.{w64}
 use Rattle.whole.proofs.View.{View, view, seen, v_unsigned, fits, eq_by}
 use Rattle.turtle.proofs.CornerLaws.{triple_is}
-use Rattle.polygon.specs.Polygons.{starting_at, narrow}
+use Rattle.polygon.specs.Polygons.{readable, starting_at, narrow}
+use Rattle.polygon.proofs.ReadLaws.{narrow_is}
 use Rattle.polygon.proofs.reading.starting_at.Goals as goal
 
 pub nonzero_div-x : goal.nonzero_div-x
@@ -30,6 +31,7 @@ returns c =
     let a : View p.a = search seen in
     let b : View p.b = search seen in
     let s = v_unsigned w64 c.args.s 1 c.requires in
-    c.narrowed.ensures
+    ap readable c.narrowed.ensures
+    ∙ narrow_is _
     ∙ ap narrow
     (triple_is (eq_by (search view depth 12) (search view depth 12) tt (omega arith)) (eq_by (search view depth 12) (search view depth 12) tt (omega arith)) (eq_by (search view depth 20) (search view depth 20) tt (omega arith)))

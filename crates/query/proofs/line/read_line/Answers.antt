@@ -1,4 +1,4 @@
--- By the letter, the count of words, and what the readers of the orientation and the resolution said.
+-- By the letter and the count of words, and what the readers of the orientation and the resolution said.
 use Rattle.query.proofs.LineLaws.{refusal_laws, query_laws}
 use borrow.Author.Rules.{rules}
 use Rattle.query.proofs.line.read_line.Goals as goal
@@ -15,23 +15,23 @@ returns-in_default c = search (rules, refusal_laws)
 pub returns-in_default-byte : goal.returns-in_default-byte
 returns-in_default-byte c = search (rules, refusal_laws)
 
-pub returns-then-words-eq4 : goal.returns-then-words-eq4
-returns-then-words-eq4 c = search (rules, query_laws)
+pub returns-in-80-eq4 : goal.returns-in-80-eq4
+returns-in-80-eq4 c = search (rules, query_laws)
 
-pub returns-then-letter-eq80 : goal.returns-then-letter-eq80
-returns-then-letter-eq80 c = search (rules, refusal_laws)
+pub returns-in-67-eq6 : goal.returns-in-67-eq6
+returns-in-67-eq6 c = search (rules, query_laws)
 
-pub returns-then-words-eq6 : goal.returns-then-words-eq6
-returns-then-words-eq6 c = search (rules, query_laws)
+pub returns-in-82-eq5 : goal.returns-in-82-eq5
+returns-in-82-eq5 c = search (rules, query_laws)
 
-pub returns-then-letter-eq67 : goal.returns-then-letter-eq67
-returns-then-letter-eq67 c = search (rules, refusal_laws)
+pub returns-in_default-2 : goal.returns-in_default-2
+returns-in_default-2 c = search (rules, refusal_laws)
 
-pub returns-then-words-eq5 : goal.returns-then-words-eq5
-returns-then-words-eq5 c = search (rules, query_laws)
+pub returns-in_default-2-2 : goal.returns-in_default-2-2
+returns-in_default-2-2 c = search (rules, refusal_laws)
 
-pub returns-else-words-eq5 : goal.returns-else-words-eq5
-returns-else-words-eq5 c = search (rules, refusal_laws)
+pub returns-in_default-2-3 : goal.returns-in_default-2-3
+returns-in_default-2-3 c = search (rules, refusal_laws)
 
-pub returns-else-letter-eq82 : goal.returns-else-letter-eq82
-returns-else-letter-eq82 c = search (rules, refusal_laws)
+pub returns-in_default-2-4 : goal.returns-in_default-2-4
+returns-in_default-2-4 c = search (rules, refusal_laws)

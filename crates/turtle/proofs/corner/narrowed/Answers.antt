@@ -1,6 +1,6 @@
 -- Each coordinate by what was read of it.
 use borrow.Author.Rules.{rules}
-use Rattle.turtle.specs.Inside.Candidates.{narrowed}
+use Rattle.turtle.specs.Corners.{narrowed}
 use Rattle.turtle.proofs.CornerLaws.{coordinate, narrowed_some}
 use Rattle.turtle.proofs.corner.narrowed.Goals as goal
 

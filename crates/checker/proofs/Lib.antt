@@ -1,0 +1,2 @@
+-- the buffer that the list is read into
+pub mod RoomLaws
