@@ -53,11 +53,11 @@ static void compile(void) { hb_compile((const uint8_t *)A5, sizeof A5 - 1, table
  * `values` of them, the greatest first, in steps, over and over. */
 static void report_of(int count, int values, int step)
 {
-    static uint64_t work[128];
+    static uint64_t work[128], area[2 * 128];
     static int32_t cells[3 * 128 + 1];
     for (int k = 0; k < count; k++)
         hb_cell(5, 30, (uint64_t)((values - 1 - k % values) * step % values), cells + 3 * k, 4);
-    hb_area_report(5, 30, cells, 3 * (size_t)count, work, (size_t)count, made, 192, out, 4);
+    hb_area_report(5, 30, cells, 3 * (size_t)count, work, (size_t)count, area, 2 * (size_t)count, out, 4);
 }
 
 /* Two by turns: parted down to the last bit, at the greatest depth there is. */
