@@ -1,5 +1,5 @@
 -- What the calls answer, and a slice afterwards, at each of their tests, in the form of what the code has in hand there.
-use mathlib.Core.Bool.{Bool, true, false, not, cond, ◌&&◌, true≢false}
+use mathlib.Core.Bool.{Bool, true, false, not, ◌&&◌, true≢false}
 use mathlib.Core.Path.{◌≡◌, refl, sym, ap, ◌∙◌}
 use mathlib.Core.List.{List, [], ◌∷◌, ◌++◌}
 use Prim.Native.Nat.{ℕ, ◌*◌, ◌/◌, ◌≤◌, ◌<◌, min}
@@ -19,6 +19,7 @@ use Rattle.fold.specs.Cells.{pairs, cells_in}
 use Rattle.fold.specs.Unfolds.{shallow, inside, ordered, passes, passed_before, refusal_for, unfold_of, unfold_call}
 use Rattle.whole.proofs.Bools.{both_true}
 use Rattle.fold.proofs.PairLaws.{length_pairs}
+use Rattle.fold.proofs.PassLaws.{deep_no, deep_yes, low_no, low_yes, tidy_no, tidy_yes, passes_most}
 use Rattle.fold.proofs.PairTestLaws.{passes_tested}
 use Rattle.area.specs.declared.operation.Operation.{Operation}
 use Rattle.area.specs.declared.operation.Operation.TheVariants as For
@@ -26,88 +27,6 @@ use Rattle.area.specs.Areas.{tested, made_of, made_call, size_call, contained, c
 use Rattle.area.specs.Inside.Rooms.{ample}
 use Rattle.area.proofs.ContainLaws.{contained_left}
 use Rattle.area.proofs.RoomLaws.{ample_room}
-
--- ---- how many tests are passed
-module _ (deep near tidy : Bool) where
-  abbrev number : ℕ
-  number = cond deep (cond near (cond tidy 3 2) 1) 0
-
-first : (s i o : Bool) → 1 ≤ number s i o → s ≡ true
-first true i o h = refl
-first false i o h = let z : ⊥ = omega arith in absurd z
-
-second : (s i o : Bool) → 2 ≤ number s i o → i ≡ true
-second s true o h = refl
-second true false o h = let z : ⊥ = omega arith in absurd z
-second false false o h = let z : ⊥ = omega arith in absurd z
-
-third : (s i o : Bool) → 3 ≤ number s i o → o ≡ true
-third s i true h = refl
-third true true false h = let z : ⊥ = omega arith in absurd z
-third true false false h = let z : ⊥ = omega arith in absurd z
-third false i false h = let z : ⊥ = omega arith in absurd z
-
-not_first : (s i o : Bool) → number s i o ≡ 0 → s ≡ false
-not_first false i o h = refl
-not_first true true true h = let z : ⊥ = omega arith in absurd z
-not_first true true false h = let z : ⊥ = omega arith in absurd z
-not_first true false o h = let z : ⊥ = omega arith in absurd z
-
-not_second : (s i o : Bool) → number s i o ≡ 1 → i ≡ false
-not_second s false o h = refl
-not_second true true true h = let z : ⊥ = omega arith in absurd z
-not_second true true false h = let z : ⊥ = omega arith in absurd z
-not_second false true o h = let z : ⊥ = omega arith in absurd z
-
-not_third : (s i o : Bool) → number s i o ≡ 2 → o ≡ false
-not_third s i false h = refl
-not_third true true true h = let z : ⊥ = omega arith in absurd z
-not_third true false true h = let z : ⊥ = omega arith in absurd z
-not_third false i true h = let z : ⊥ = omega arith in absurd z
-
--- ---- one list
-module _ (r : ℕ) (xs : List ℕ) {n : ℕ} (e : n ≡ passes r xs) where
-  abbrev s : Bool
-  s = leb r 30 && shallow r (cells_in xs)
-
-  abbrev i : Bool
-  i = inside (cells_in xs)
-
-  abbrev o : Bool
-  o = ordered r xs
-
-  is_count : n ≡ number s i o
-  unfolding passes
-  is_count = e
-
-  deep_no : n ≡ 0 → s ≡ false
-  deep_no h = not_first s i o (sym is_count ∙ h)
-
-  deep_yes : 1 ≤ n → s ≡ true
-  deep_yes h = first s i o (rw (← is_count) h)
-
-  low_no : n ≡ 1 → i ≡ false
-  low_no h = not_second s i o (sym is_count ∙ h)
-
-  low_yes : 2 ≤ n → i ≡ true
-  low_yes h = second s i o (rw (← is_count) h)
-
-  tidy_no : n ≡ 2 → o ≡ false
-  tidy_no h = not_third s i o (sym is_count ∙ h)
-
-  tidy_yes : 3 ≤ n → o ≡ true
-  tidy_yes h = third s i o (rw (← is_count) h)
-
--- no more than three
-most : (s i o : Bool) → number s i o ≤ 3
-most true true true = omega arith
-most true true false = omega arith
-most true false o = omega arith
-most false i o = omega arith
-
-passes_most : (xs : List ℕ) → passes 30 xs ≤ 3
-unfolding passes
-passes_most xs = most (leb 30 30 && shallow 30 (cells_in xs)) (inside (cells_in xs)) (ordered 30 xs)
 
 -- ---- two lists
 and_no : (x y : Bool) → ((x ≡ false → ⊥) → y ≡ false) → (x && y) ≡ false
@@ -282,7 +201,7 @@ module _ (a : List ℕ) (m p : ℕ) where
       → {k : ℕ} → k ≡ length (made_of u xs ys) → told (eqb k 0) ≡ contains_call a m p
   unfolding contains_call made_of cells_in
   contains_told e s f =
-      let one = (passes_tested 30 (m ∷ p ∷ []) (omega (arith, passes_most (m ∷ p ∷ []), passes_most a))).laid in
-      let all = (passes_tested 30 a (omega (arith, passes_most (m ∷ p ∷ []), passes_most a))).laid in
+      let one = (passes_tested 30 (m ∷ p ∷ []) (omega (arith, passes_most 30 (m ∷ p ∷ []), passes_most 30 a))).laid in
+      let all = (passes_tested 30 a (omega (arith, passes_most 30 (m ∷ p ∷ []), passes_most 30 a))).laid in
       let g = rw (s.0, s.1, s.2) at f in
       ap (λ (b : Bool). told b) (contained_left 30 m p (cells_in a) one.0 one.1 all g) ∙ both_tested (m ∷ p ∷ []) a (told (contained 30 (cells_in a) m p)) e

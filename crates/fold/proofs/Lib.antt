@@ -16,6 +16,8 @@ pub mod FoldAnswerLaws
 -- ---- the code that unfolds
 -- the tests of a list of pairs
 pub mod PairTestLaws
+-- what a number of tests passed says of each
+pub mod PassLaws
 -- runs of positions, and how many there are
 pub mod RunLaws
 -- the walk along pairs, and the positions that it stores

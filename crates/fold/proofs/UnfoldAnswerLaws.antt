@@ -1,6 +1,6 @@
 -- What `unfold` answers, and its slice afterwards, at each of its tests, in the form of what the code has in hand there.
-use mathlib.Core.Bool.{Bool, true, false, cond, ◌&&◌}
-use mathlib.Core.Path.{◌≡◌, refl, sym, ap, ◌∙◌}
+use mathlib.Core.Bool.{true, false}
+use mathlib.Core.Path.{◌≡◌, refl, ap, ◌∙◌}
 use mathlib.Core.List.{List, ◌++◌}
 use Prim.Native.Nat.{ℕ, ◌≤◌, ◌<◌}
 use native.Mathlib.Omega.{arith}
@@ -20,6 +20,7 @@ use Rattle.fold.specs.Unfolds.{shallow, inside, ordered, passes, passed_before, 
 use Rattle.fold.specs.Inside.Pairs.{refusal_at}
 use Rattle.whole.proofs.Bools.{both_true}
 use Rattle.fold.proofs.FoldAnswerLaws.{refused_count, refused_left}
+use Rattle.fold.proofs.PassLaws.{deep_no, deep_yes, low_no, low_yes, tidy_no, tidy_yes}
 use Rattle.fold.specs.declared.pairs.Cells.{Cells}
 use Rattle.std.proofs.Common.{Result, Ok, Err}
 use Rattle.std.specs.Result.{MatchResult, IsErrAnd}
@@ -51,39 +52,6 @@ module _ (r : ℕ) (xs slice : List ℕ) {size : ℕ} (size_is : size ≡ length
 
 pub ruleset unfolding_room = (short_count, short_left, roomy, whole_count, whole_left)
 
--- ---- what a number of tests passed says of each
-module _ (deep near tidy : Bool) where
-  abbrev number : ℕ
-  number = cond deep (cond near (cond tidy 3 2) 1) 0
-
-none_passed : (a b c : Bool) → number a b c ≡ 0 → a ≡ false
-none_passed true true true e = let z : ⊥ = omega arith in absurd z
-none_passed true true false e = let z : ⊥ = omega arith in absurd z
-none_passed true false c e = let z : ⊥ = omega arith in absurd z
-none_passed false b c e = refl
-
-some_passed : (a b c : Bool) → (number a b c ≡ 0 → ⊥) → a ≡ true
-some_passed true b c e = refl
-some_passed false b c e = absurd (e refl)
-
-one_passed : (a b c : Bool) → number a b c ≡ 1 → b ≡ false
-one_passed true true true e = let z : ⊥ = omega arith in absurd z
-one_passed true true false e = let z : ⊥ = omega arith in absurd z
-one_passed true false c e = refl
-one_passed false b c e = let z : ⊥ = omega arith in absurd z
-
-two_passed : (a b c : Bool) → number a b c ≡ 2 → (b ≡ true) × (c ≡ false)
-two_passed true true true e = let z : ⊥ = omega arith in absurd z
-two_passed true true false e = (refl, refl)
-two_passed true false c e = let z : ⊥ = omega arith in absurd z
-two_passed false b c e = let z : ⊥ = omega arith in absurd z
-
-all_passed : (a b c : Bool) → (number a b c ≡ 0 → ⊥) → (number a b c ≡ 1 → ⊥) → (number a b c ≡ 2 → ⊥) → (b ≡ true) × (c ≡ true)
-all_passed true true true e f g = (refl, refl)
-all_passed true true false e f g = absurd (g refl)
-all_passed true false c e f g = absurd (f refl)
-all_passed false b c e f g = absurd (e refl)
-
 -- ---- the tests
 module _ (o r : ℕ) (xs : List ℕ) {passed : ℕ} (passed_is : passed ≡ passes r xs) where
   abbrev cells : List Cell
@@ -91,9 +59,9 @@ module _ (o r : ℕ) (xs : List ℕ) {passed : ℕ} (passed_is : passed ≡ pass
 
   module _ (e : passed ≡ 0) where
     deep : refused (number_of Is.Resolution) ≡ unfold_call o r xs
-    unfolding passes unfold_call
+    unfolding unfold_call
     deep =
-        let f = none_passed (leb r 30 && shallow r cells) (inside cells) (ordered r xs) (sym passed_is ∙ e) in
+        let f = deep_no r xs passed_is e in
         elim (dec_le r 30) [
           | yes h ↦ (let g : shallow r cells ≡ false = rw (le-leb r 30 h) at f in simp (le-ltb 30 r h, g))
           | no h ↦ simp (lt-ltb 30 r (omega arith))
@@ -101,8 +69,7 @@ module _ (o r : ℕ) (xs : List ℕ) {passed : ℕ} (passed_is : passed ≡ pass
 
   module _ (some : passed ≡ 0 → ⊥) where
     both : (leb r 30 ≡ true) × (shallow r cells ≡ true)
-    unfolding passes
-    both = both_true (leb r 30) (shallow r cells) (some_passed (leb r 30 && shallow r cells) (inside cells) (ordered r xs) (λ z. some (passed_is ∙ z)))
+    both = both_true (leb r 30) (shallow r cells) (deep_yes r xs passed_is (omega arith))
 
     low : r ≤ 30
     low = leb-true r 30 both.0
@@ -115,22 +82,20 @@ module _ (o r : ℕ) (xs : List ℕ) {passed : ℕ} (passed_is : passed ≡ pass
     module _ (oriented : o ≤ 5) where
       module _ (e : passed ≡ 1) where
         past : refused (number_of Is.Position) ≡ unfold_call o r xs
-        unfolding passes unfold_call
+        unfolding unfold_call
         past =
-            let f = one_passed (leb r 30 && shallow r cells) (inside cells) (ordered r xs) (sym passed_is ∙ e) in
+            let f = low_no r xs passed_is e in
             simp (le-ltb 30 r low, both.1, le-ltb 5 o oriented, f)
 
       module _ (e : passed ≡ 2) where
         unordered : refused (number_of Is.Order) ≡ unfold_call o r xs
-        unfolding passes unfold_call
+        unfolding unfold_call
         unordered =
-            let f = two_passed (leb r 30 && shallow r cells) (inside cells) (ordered r xs) (sym passed_is ∙ e) in
-            simp (le-ltb 30 r low, both.1, le-ltb 5 o oriented, f.0, f.1)
+            simp (le-ltb 30 r low, both.1, le-ltb 5 o oriented, low_yes r xs passed_is (omega arith), tidy_no r xs passed_is e)
 
       module _ (e : passed ≡ 1 → ⊥) (f : passed ≡ 2 → ⊥) where
         sound : (inside cells ≡ true) × (ordered r xs ≡ true)
-        unfolding passes
-        sound = all_passed (leb r 30 && shallow r cells) (inside cells) (ordered r xs) (λ z. some (passed_is ∙ z)) (λ z. e (passed_is ∙ z)) (λ z. f (passed_is ∙ z))
+        sound = let three : 3 ≤ passed = omega arith in (low_yes r xs passed_is (omega (arith, three)), tidy_yes r xs passed_is three)
 
         unfolded : told (positions_of r xs) ≡ unfold_call o r xs
         unfolding unfold_call
