@@ -61,11 +61,15 @@ pub fn mirrored(b: u8) -> u8
     }
 }
 
+// Stays byte by byte: `copy_from_slice` calls `memmove` here, and the header says that the library takes memcpy and memset
+// alone.
 fn write_along(s: &[u8], out: &mut [u8])
     requires { length s.now ≤ length out.old }
     ensures { out.new ≡ s.now ++ drop (length s.now) out.old }
 {
-    out[..s.len()].copy_from_slice(s);
+    for k in 0..s.len() {
+        out[k] = s[k];
+    }
 }
 
 pub(crate) fn write_back(s: &[u8], out: &mut [u8])

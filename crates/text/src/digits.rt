@@ -11,7 +11,11 @@ ghost use Rattle.text.specs.Inside.Putting.{lowest};
 pub(crate) fn natural_length(n: u64) -> usize
     ensures { result ≡ length (natural n) }
 {
-    n.max(1).ilog10() as usize + 1
+    // Most are of one digit, and need no logarithm.
+    if n < 10 {
+        return 1;
+    }
+    n.ilog10() as usize + 1
 }
 
 fn digit_byte(d: u64) -> u8

@@ -33,6 +33,17 @@ pub fn put(out: &mut [u8], at: usize, b: u8) -> usize
     out.len() + 1
 }
 
+// Stays byte by byte: `copy_from_slice` calls `memmove` in callers, and the header says that the library takes memcpy and
+// memset alone.
+fn copy(out: &mut [u8], at: usize, text: &[u8])
+    requires { at + length text.now ≤ length out.old }
+    ensures { out.new ≡ with_text out.old at text.now }
+{
+    for k in 0..text.len() {
+        out[at + k] = text[k];
+    }
+}
+
 pub fn put_bytes(out: &mut [u8], at: usize, text: &[u8]) -> usize
     ensures { Put out.old at text.now out.new result }
 {
@@ -40,7 +51,7 @@ pub fn put_bytes(out: &mut [u8], at: usize, text: &[u8]) -> usize
     if end > out.len() {
         return end;
     }
-    out[at..at + text.len()].copy_from_slice(text);
+    copy(out, at, text);
     end
 }
 
