@@ -3,9 +3,9 @@
 // `svg`'s; this file has the arguments. Arguments of any other kind are said on standard error, with no picture.
 #![tactic(auto)]
 
-use lines::{argument, fail, is_given, print};
+use lines::{argument, is_given};
 use std::env::Env;
-use std::io;
+use svg::print_picture;
 use text::number::byte;
 
 mod svg;
@@ -19,21 +19,6 @@ fn number_at<E: Env>(rt: &E, i: usize) -> u8 {
 
 fn say_usage<E: Eprint>(rt: &E) {
     let _ = eprintln!(rt; "two arguments, an orientation 0 to 5 and passes 1 to 6");
-}
-
-// The picture whole, or none where there is no memory for it.
-fn print_picture<P: Print + Eprint + AllocGlobal>(
-    rt: &P,
-    orientation: u8,
-    passes: u8,
-    cells: &[i32],
-) {
-    match svg::picture(rt.alloc(), orientation, passes, cells) {
-        Ok(text) => {
-            print(rt, text.as_bytes());
-        }
-        Err(e) => fail(rt, "the picture", io::Error::from(e)),
-    }
 }
 
 fn main(rt: HostRuntime) {

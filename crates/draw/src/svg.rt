@@ -3,9 +3,57 @@
 // corner sum; one matrix brings them onto the plane.
 ghost use Rattle.std.specs.Prelude.{◌≤◌};
 
-use std::alloc::{AllocError, Global};
+use lines::print;
+use text::put::{put_bytes, put_integer, put_natural, put_next_integer};
 use triple::Triple;
 use triple::domain::position_count;
+
+// The page, as far as it is put and not yet written. Where it has no room for what is put, or could not be written, the
+// place is past its end, where nothing more is put or written.
+#[derive(Drop)]
+struct Page<'a, 'b, P> {
+    rt: &'a P,
+    out: &'b mut [u8],
+    at: usize,
+}
+
+impl<P: Print + Eprint> Page<'_, '_, P> {
+    fn text(&mut self, text: &str) {
+        self.at = put_bytes(self.out, self.at, text.as_bytes());
+    }
+
+    fn natural(&mut self, n: u64) {
+        self.at = put_natural(self.out, self.at, n);
+    }
+
+    fn integer(&mut self, z: i64) {
+        self.at = put_integer(self.out, self.at, z);
+    }
+
+    // A space, and then a number.
+    fn next_integer(&mut self, z: i64) {
+        self.at = put_next_integer(self.out, self.at, z);
+    }
+
+    // With room for what is put for one cell.
+    fn make_room(&mut self) {
+        if self.at <= self.out.len() && self.out.len() - self.at < 128 {
+            self.write();
+        }
+    }
+
+    // Writes what is put. Where that fails it is said.
+    fn write(&mut self) {
+        let (at, n) = (self.at, self.out.len());
+        if at <= n {
+            self.at = if print(self.rt, &self.out[..at]) {
+                0
+            } else {
+                n + 1
+            };
+        }
+    }
+}
 
 const PAGE: &str =
     r##"<svg xmlns="http://www.w3.org/2000/svg" viewBox="0 0 960 900" width="960" height="900" font-family="DejaVu Sans, Verdana, sans-serif" font-size="16" fill="#20262e">
@@ -54,14 +102,14 @@ fn name_of(orientation: u8) -> &'static str {
 }
 
 // The orientation, the passes and how many cells they draw.
-fn put_title(out: &mut String, orientation: u8, passes: u8) -> Result<(), AllocError> {
-    let name = name_of(orientation);
-    let ending = if passes == 1 { "" } else { "es" };
-    let cells = position_count(passes);
-    write!(
-        out,
-        "A5's curve {name}, {passes} pass{ending}: {cells} cells"
-    )
+fn put_title<P: Print + Eprint>(page: &mut Page<'_, '_, P>, orientation: u8, passes: u8) {
+    page.text("A5's curve ");
+    page.text(name_of(orientation));
+    page.text(", ");
+    page.natural(passes as u64);
+    page.text(if passes == 1 { " pass: " } else { " passes: " });
+    page.natural(position_count(passes));
+    page.text(" cells");
 }
 
 // How many rows the wedge has: 2^passes.
@@ -79,92 +127,98 @@ fn rows_of(passes: u8) -> u64
 }
 
 // The wedge's own place on the page, of so many rows, and the matrix.
-fn put_place(out: &mut String, rows: u64) -> Result<(), AllocError>
+fn put_place<P: Print + Eprint>(page: &mut Page<'_, '_, P>, rows: u64)
     requires { rows ≤ 64 }
 {
-    let (half, whole) = (6 * rows, 12 * rows);
-    write!(
-        out,
-        "<svg x=\"80\" y=\"90\" width=\"800\" height=\"800\" overflow=\"visible\" viewBox=\"-{half} 0 {whole} "
-    )?;
-    write!(
-        out,
-        "{whole}\">\n<g transform=\"matrix(.5 .866025 1 0 0 0)\">\n"
-    )
+    page.text(
+        "<svg x=\"80\" y=\"90\" width=\"800\" height=\"800\" overflow=\"visible\" viewBox=\"-",
+    );
+    page.natural(6 * rows);
+    page.text(" 0 ");
+    page.natural(12 * rows);
+    page.text(" ");
+    page.natural(12 * rows);
+    page.text("\">\n<g transform=\"matrix(.5 .866025 1 0 0 0)\">\n");
 }
 
 // The edge of the wedge.
-fn put_edge(out: &mut String, rows: u64) -> Result<(), AllocError>
+fn put_edge<P: Print + Eprint>(page: &mut Page<'_, '_, P>, rows: u64)
     requires { rows ≤ 64 }
 {
-    let side = 12 * rows;
-    write!(out, "<path class=\"wedge\" d=\"M0 0H{side}V-{side}z\"/>\n")
+    page.text("<path class=\"wedge\" d=\"M0 0H");
+    page.natural(12 * rows);
+    page.text("V-");
+    page.natural(12 * rows);
+    page.text("z\"/>\n");
 }
 
 // A cell's triangle. Where the triple's sum is 0 its corners are p, p + (12, -12) and p + (12, 0), from
 // p = (12y, 12x); else q, q + (12, 0) and q + (0, 12), from q = (12y, 12x - 12).
-fn put_triangle(out: &mut String, t: Triple, flavor: i32) -> Result<(), AllocError> {
+fn put_triangle<P: Print + Eprint>(page: &mut Page<'_, '_, P>, t: Triple, flavor: i32) {
     let (a, b) = (12 * t.y as i64, 12 * t.x as i64);
+    page.text("<path class=\"f");
+    page.integer(flavor as i64);
+    page.text("\" d=\"M");
+    page.integer(a);
     if t.sum() == 0 {
-        return write!(
-            out,
-            "<path class=\"f{flavor}\" d=\"M{a} {b}l12-12v12z\"/>\n"
-        );
+        page.next_integer(b);
+        page.text("l12-12v12z\"/>\n");
+    } else {
+        page.next_integer(b - 12);
+        page.text("h12l-12 12z\"/>\n");
     }
-    let below = b - 12;
-    write!(
-        out,
-        "<path class=\"f{flavor}\" d=\"M{a} {below}h12l-12 12z\"/>\n"
-    )
 }
 
 // Its middle, the corner sum: (12y + 8, 12x - 4), or (12y + 4, 12x - 8).
-fn put_middle(out: &mut String, t: Triple) -> Result<(), AllocError> {
+fn put_middle<P: Print + Eprint>(page: &mut Page<'_, '_, P>, t: Triple) {
     let less = if t.sum() == 0 { 4 } else { 8 };
-    let (a, b) = (12 * t.y as i64 + (12 - less), 12 * t.x as i64 - less);
-    write!(out, " {a} {b}")
+    page.next_integer(12 * t.y as i64 + (12 - less));
+    page.next_integer(12 * t.x as i64 - less);
 }
 
 // What is put for each cell, in their order. A cell is four entries: its triple and its flavor.
-fn put_each<F: Fn(&mut String, Triple, i32) -> Result<(), AllocError>>(
-    out: &mut String,
+fn put_each<P: Print + Eprint, F: Fn(&mut Page<'_, '_, P>, Triple, i32)>(
+    page: &mut Page<'_, '_, P>,
     cells: &[i32],
     put: F,
-) -> Result<(), AllocError>
+)
     requires { F.IsAlwaysCallable put }
 {
     for cell in cells.chunks_exact(4) {
         if let [x, y, z, flavor] = cell {
-            put(out, Triple::new(*x, *y, *z), *flavor)?;
+            page.make_room();
+            put(page, Triple::new(*x, *y, *z), *flavor);
         }
     }
-    Ok(())
 }
 
 // The whole picture.
-pub(crate) fn picture(
-    alloc: Global,
-    orientation: u8,
-    passes: u8,
-    cells: &[i32],
-) -> Result<String, AllocError> {
+pub(crate) fn print_picture<P: Print + Eprint>(rt: &P, orientation: u8, passes: u8, cells: &[i32]) {
+    let mut out = [0u8; 65536];
+    let mut page = Page {
+        rt,
+        out: &mut out,
+        at: 0,
+    };
     let rows = rows_of(passes);
-    let mut out = String::from_str(alloc, PAGE)?;
-    put_title(&mut out, orientation, passes)?;
-    out.push_str(STYLE)?;
-    put_title(&mut out, orientation, passes)?;
-    out.push_str(LEGEND)?;
-    put_place(&mut out, rows)?;
-    put_each(&mut out, cells, put_triangle)?;
-    put_edge(&mut out, rows)?;
-    out.push_str("<path class=\"curve\" d=\"M")?;
-    put_each(&mut out, cells, |out, t, _| put_middle(out, t))?;
-    out.push_str("\"/>\n<path class=\"first\" d=\"M")?;
+    page.text(PAGE);
+    put_title(&mut page, orientation, passes);
+    page.text(STYLE);
+    put_title(&mut page, orientation, passes);
+    page.text(LEGEND);
+    put_place(&mut page, rows);
     put_each(
-        &mut out,
-        &cells[..cells.len().min(4)],
-        |out, t, _| put_middle(out, t),
-    )?;
-    out.push_str("h0\"/>\n</g>\n</svg>\n</svg>\n")?;
-    Ok(out)
+        &mut page,
+        cells,
+        |page, t, flavor| put_triangle(page, t, flavor),
+    );
+    put_edge(&mut page, rows);
+    page.text("<path class=\"curve\" d=\"M");
+    put_each(&mut page, cells, |page, t, _| put_middle(page, t));
+    page.text("\"/>\n<path class=\"first\" d=\"M");
+    if let [x, y, z, ..] = cells {
+        put_middle(&mut page, Triple::new(*x, *y, *z));
+    }
+    page.text("h0\"/>\n</g>\n</svg>\n</svg>\n");
+    page.write();
 }

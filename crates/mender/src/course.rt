@@ -11,7 +11,7 @@ use std::io::{ErrorKind, Read, Write};
 
 // All of the old list: a piece is read behind what is kept of the one before, mended, and written. A read that a
 // signal cut short has read nothing, and the next turn reads again. No list is so long that it uses up the turns.
-pub(crate) fn carry_over<R: Read, W: Write, P: Print + AllocGlobal>(
+pub(crate) fn carry_over<R: Read, W: Write, P: Print>(
     from: &mut R,
     to: &mut W,
     rt: &P,
@@ -40,7 +40,7 @@ pub(crate) fn carry_over<R: Read, W: Write, P: Print + AllocGlobal>(
 
 // Writes what is mended of the first bytes of a piece, and brings the rest of them to its front; answers how many
 // those are.
-fn carried<W: Write, P: Print + AllocGlobal>(
+fn carried<W: Write, P: Print>(
     to: &mut W,
     piece: &mut [u8],
     end: usize,
@@ -65,7 +65,7 @@ fn carried<W: Write, P: Print + AllocGlobal>(
 }
 
 // The lines that are still gathered.
-fn printed<P: Print + AllocGlobal>(changes: &mut Changes<'_, P>) -> Result<(), Failure<'static>> {
+fn printed<P: Print>(changes: &mut Changes<'_, P>) -> Result<(), Failure<'static>> {
     changes.print().map_err(|error| Failure {
         what: "standard output",
         error,

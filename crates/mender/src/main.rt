@@ -20,7 +20,7 @@ fn say_usage<E: Eprint>(rt: &E) {
 }
 
 // The whole list in the new file, and the file on its disk. It is closed then.
-fn make<R: Read, W: Write + OpenFile + Drop, P: Print + AllocGlobal>(
+fn make<R: Read, W: Write + OpenFile + Drop, P: Print>(
     rt: &P,
     from: &mut R,
     mut to: W,
@@ -33,7 +33,7 @@ fn make<R: Read, W: Write + OpenFile + Drop, P: Print + AllocGlobal>(
 }
 
 // Into a file that is made here, and is gone where it is not whole.
-fn mend_into<R: Read, F: Files + Print + AllocGlobal>(
+fn mend_into<R: Read, F: Files + Print>(
     rt: &F,
     from: &mut R,
     new: &str,
@@ -54,11 +54,7 @@ fn mend_into<R: Read, F: Files + Print + AllocGlobal>(
 }
 
 // The files of these names. A name that is no text is invalid.
-fn mend_named<'a, F: Files + Print + AllocGlobal>(
-    rt: &F,
-    old: &'a [u8],
-    new: &[u8],
-) -> Result<(), Failure<'a>> {
+fn mend_named<'a, F: Files + Print>(rt: &F, old: &'a [u8], new: &[u8]) -> Result<(), Failure<'a>> {
     let invalid = ErrorKind::InvalidFilename;
     let old = str::from_utf8(old).map_err(|_| Failure::of("the old list", invalid))?;
     let new = str::from_utf8(new).map_err(|_| Failure::of("the new list", invalid))?;

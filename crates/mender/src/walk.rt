@@ -53,7 +53,7 @@ pub struct Walk {
 
 // Mends a piece up to its limit, and tells the changes.
 #[tactic(auto, using(crate::proofs::CarryLaws::carrying))]
-pub fn walk_piece<P: Print + AllocGlobal>(
+pub fn walk_piece<P: Print>(
     piece: &[u8],
     is_last: bool,
     out: &mut [u8],
