@@ -2,10 +2,11 @@
 use mathlib.Core.Path.{◌≡◌, refl, sym, ap, ap₂, ◌∙◌}
 use mathlib.Core.Bool.{Bool, true, false, ◌&&◌}
 use mathlib.Core.List.{List, [], ◌∷◌, map}
-use Prim.Native.Nat.{ℕ, ◌*◌, ◌<◌}
+use Prim.Native.Nat.{ℕ, ◌*◌, ◌<◌, min}
 use native.Mathlib.Omega.{arith}
 use lib.IntN.{ℤ}
-use lib.ListN.{length, get_or}
+use lib.ListN.{length, get_or, take, length-take}
+use lib.Seq.{get_or-take}
 use Rattle.std.proofs.lemmas.List.{get_or-map, length-map}
 use mir.Syntax.{w8, w64}
 use mir.Val.{Fits, SFits}
@@ -43,6 +44,14 @@ module _ (g : Placed) (l : List Corner) (l_is : map point_of l ≡ points_of g.h
       let inner : get_or (map point_of l) i origin ≡ point_of (get_or l i d) = get_or-map point_of l i d origin inside in
       let outer = get_or-map (turned g) (map point_of l) i origin origin (rw (length-map l point_of) inside) in
       e ∙ sym (outer ∙ ap (turned g) inner) ∙ ap (λ (ps : List AB). get_or (map (turned g) ps) i origin) l_is
+
+-- the same of the hull's own array
+pub corner_at_lem : (g : Placed) (i : ℕ) → i < length (placed_corners g) → (d : Corner) {p : AB} → p ≡ thrice (point_of g.at) ⊕ thrice (signed g.flip (point_of (get_or g.hull.corners i d))) → p ≡ get_or (placed_corners g) i origin
+unfolding points_of
+corner_at_lem g i h d e =
+    let m : ℕ = min g.hull.count 24 in
+    let few : i < m = omega (arith, h, corners_long g (take m g.hull.corners) refl, length-take m g.hull.corners) in
+    corner_at g (take m g.hull.corners) refl i d h (e ∙ ap (λ (c : Corner). turned g (point_of c)) (sym (get_or-take m g.hull.corners i d few)))
 
 -- a coordinate is passed on by its bits
 module _ (at p : Corner) (flip : Bool) (fa : SFits w8 at.a) (fb : SFits w8 at.b) (ga : SFits w8 p.a) (gb : SFits w8 p.b) where

@@ -39,48 +39,48 @@ pub struct Cells<'a> {
 }
 
 impl<'a> Cells<'a> {
-    // The cells of a list, or the first test that it fails. One walk tells all three, since a cell that is
-    // outside ends the search for one that is out of order, but not the search for one that is too deep.
+    // The cells of a list, or the first test that it fails.
     pub fn read(resolution: u8, pairs: &'a [u64]) -> Result<Cells<'a>, Fault>
         ensures passed { passed_by result ≡ passes resolution pairs.now }
         ensures cells { IfOk result (λ c. (c.resolution ≡ resolution) × (c.pairs.now ≡ pairs.now)) }
     {
-        if resolution > Triple::GREATEST_RESOLUTION {
-            return Err(Fault::Resolution);
+        match tests_passed(resolution, pairs) {
+            0 => Err(Fault::Resolution),
+            1 => Err(Fault::Position),
+            2 => Err(Fault::Order),
+            _ => Ok(Cells { resolution, pairs }),
         }
-        let mut seen = Seen {
-            bounded: true,
-            sorted: true,
-            end: 0,
-        };
-        let (cells, alone) = pairs.as_chunks::<2>();
-        for [m, p] in cells {
-            if *m > resolution as u64 {
-                return Err(Fault::Resolution);
-            }
-            seen = see_pair(seen, resolution, *m, *p);
-        }
-        if !seen.bounded {
-            return Err(Fault::Position);
-        }
-        if !(seen.sorted && alone.is_empty()) {
-            return Err(Fault::Order);
-        }
-        Ok(Cells { resolution, pairs })
     }
 }
 
-// How many of the tests a list passes.
-// Stays a number beside what `Cells::read` answers: docs/CONTRACTS.md names it and `tests_passed_determined`.
+// How many of the tests a list passes. One walk tells all three, since a cell that is outside ends the search
+// for one that is out of order, but not the search for one that is too deep.
+// Stays a number: docs/CONTRACTS.md names it and `tests_passed_determined`.
 pub fn tests_passed(resolution: u8, pairs: &[u64]) -> u8
     ensures { result ≡ passes resolution pairs.now }
 {
-    match Cells::read(resolution, pairs) {
-        Err(Fault::Resolution) => 0,
-        Err(Fault::Position) => 1,
-        Err(Fault::Order) => 2,
-        Ok(_) => 3,
+    if resolution > Triple::GREATEST_RESOLUTION {
+        return 0;
     }
+    let mut seen = Seen {
+        bounded: true,
+        sorted: true,
+        end: 0,
+    };
+    let (cells, alone) = pairs.as_chunks::<2>();
+    for [m, p] in cells {
+        if *m > resolution as u64 {
+            return 0;
+        }
+        seen = see_pair(seen, resolution, *m, *p);
+    }
+    if !seen.bounded {
+        return 1;
+    }
+    if !(seen.sorted && alone.is_empty()) {
+        return 2;
+    }
+    3
 }
 
 // What is seen of the pairs up to an entry: whether each has a position of its resolution; whether the

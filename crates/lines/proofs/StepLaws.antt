@@ -1,11 +1,14 @@
 -- What the parts of a step make of an exchange, in the form of what the code has in hand.
-use mathlib.Core.Path.{◌≡◌, refl, sym, subst, ◌∙◌}
+use mathlib.Core.Path.{◌≡◌, refl, sym, ap, subst, ◌∙◌}
 use mathlib.Core.Bool.{Bool, true, false≢true}
 use mathlib.Core.List.{List}
 use Prim.Native.Nat.{ℕ, zero, suc, ◌≤◌, ◌<◌, min}
 use native.Mathlib.Omega.{arith}
 use lib.IntN.{ℤ, pos, negsuc, nat_abs}
 use lib.Signed.{lt_z}
+use mir.Syntax.{w64}
+use mir.Val.{SFits, to_z, of_z}
+use mir.ValLaws.{to_z-of_z}
 use Rattle.lines.specs.declared.Stop.TheVariants.{Last, End, Failed}
 use Rattle.lines.specs.declared.Exchange.{Exchange}
 use Rattle.lines.specs.Exchanges.{is_over, Says, Stopped}
@@ -28,6 +31,13 @@ unfolding after_read
 positive n e (pos (suc k)) h = refl
 positive n e (pos zero) h = absurd (false≢true h)
 positive n e (negsuc k) h = absurd (false≢true h)
+
+-- the same of a number that is read back from its bits
+pub positive_read : (n : ℕ) (e : Exchange) (got : ℤ) → SFits w64 got → {r : Exchange} {end : ℕ} → lt_z (pos 0) (to_z w64 (of_z w64 got)) ≡ true → end ≡ min (nat_abs (to_z w64 (of_z w64 got))) n → r ≡ amid 0 end e.kept e.gathered → r ≡ after_read n got e
+positive_read n e got fits h count same =
+    let back = to_z-of_z w64 got fits in
+    same ∙ ap (λ (k : ℕ). amid 0 k e.kept e.gathered) (count ∙ ap (λ (z : ℤ). min (nat_abs z) n) back)
+    ∙ positive n e got (ap (lt_z (pos 0)) (sym back) ∙ h)
 
 -- ---- each part is sound
 pub amid_sound : {at end kept gathered piece line out : ℕ} {e : Exchange} → e ≡ amid at end kept gathered → at ≤ end → end ≤ piece → kept ≤ line → gathered ≤ out → Sound piece line out e

@@ -26,10 +26,10 @@ pub fn answer_lines<A: Answers, R: Read, P: Print + Eprint>(
     let mut piece = [0u8; 65536];
     let mut out = [0u8; 65536];
     let mut exchange = Exchange::new();
-    for _ in 0..u64::MAX {
+    for turns in (1..u64::MAX).rev() {
         let next = exchange.next(from, rt, &mut piece, line, &out, ROOM);
         exchange = answered(next, answers, line, &mut out);
-        if exchange.is_over() {
+        if exchange.left(turns) == 0 {
             break;
         }
     }

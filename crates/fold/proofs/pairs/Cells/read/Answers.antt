@@ -1,31 +1,7 @@
--- `Cells::read`: what is seen and the rest tell what the whole list tells.
-use Rattle.std.proofs.Common.{◌≡◌, sym, ◌∙◌, ◌&&◌, eqb, length, rules}
-use Rattle.fold.specs.Unfolds.{passes}
-use Rattle.fold.proofs.PairTestLaws.{reading, and_then, and_else}
+-- `Cells::read`: a list that passes more than two tests passes all three.
+use Rattle.std.proofs.Common.{arith}
+use Rattle.fold.proofs.PassLaws.{passes_most}
 use Rattle.fold.proofs.pairs.Cells.read.Goals as goal
-use Rattle.fold.proofs.pairs.Cells.read.Goals.{then-seen, else-seen}
-
-pub returns-then-resolution-gt-GREATEST_RESOLUTION : goal.returns-then-resolution-gt-GREATEST_RESOLUTION
-returns-then-resolution-gt-GREATEST_RESOLUTION c = search (rules, reading)
-
-pub returns-then-m-resolution : goal.returns-then-m-resolution
-returns-then-m-resolution c = search (rules, reading)
-
-pub loop-m-preserved : goal.loop-m-preserved
-loop-m-preserved c = search (rules, reading)
-
-pub returns-then-not-seen : goal.returns-then-not-seen
-returns-then-not-seen c = search (rules, reading)
-
-pub returns-then-not-is_empty : goal.returns-then-not-is_empty
-returns-then-not-is_empty c =
-    let k : c.if-seen.value ≡ (c.loop-m.seen.sorted && eqb (length c.as_chunks.result.1.now) 0) =
-    elim c.if-seen.branch [ then-seen w ↦ and_then _ _ w.if-seen.true (w.value-is ∙ w.is_empty.ensures) | else-seen w ↦ and_else _ _ w.if-seen.false w.value-is ] in
-    search (rules, reading)
 
 pub invariant_of-result : goal.invariant_of-result
-invariant_of-result c =
-    let k : c.if-seen.value ≡ (c.loop-m.seen.sorted && eqb (length c.as_chunks.result.1.now) 0) =
-    elim c.if-seen.branch [ then-seen w ↦ and_then _ _ w.if-seen.true (w.value-is ∙ w.is_empty.ensures) | else-seen w ↦ and_else _ _ w.if-seen.false w.value-is ] in
-    let e : 3 ≡ passes c.args.resolution c.args.pairs.now = search (rules, reading) in
-    record { tested = sym e }
+invariant_of-result c = let most = passes_most c.args.resolution c.args.pairs.now in record { tested = omega (arith, c.in_default) }
