@@ -3,7 +3,10 @@
 // file reads the list and spells the answer. A read or a write that fails is said on standard error.
 #![tactic(auto)]
 
-ghost use Rattle.std.specs.Prelude.{◌≡◌, ◌≤◌, length, IfOk};
+ghost use Rattle.std.specs.Prelude.{◌≡◌, ◌≤◌, ◌<◌, length, take, IfOk, IfSome};
+ghost use Rattle.std.specs.Io.KnownBytes.{Consumes, IsAtEnd};
+ghost use Rattle.treated.specs.Treated.{check_of};
+ghost use Rattle.treated.specs.Answers.{said_check};
 
 use lines::{fail, print};
 use std::io;
@@ -14,26 +17,36 @@ use treated::{CheckError, Fault};
 // (proofs/FirstBytes.antt of `treated`).
 const ENOUGH: usize = 4609;
 
-// Reads to the end of the list, or as much of it as is enough, and answers how much that is. Each read has all the
-// room that is left: of what comes in packets none is cut. A read that a signal cut short has read nothing, and the
-// next turn reads again. No list is so slow that it uses up the turns.
+// Reads to the end of the list, or until its room is full, and answers how much that is. Each read has all the room
+// that is left: of what comes in packets none is cut. A read that a signal cut short has read nothing, and the next
+// turn reads again.
 fn read_front<R: Read>(from: &mut R, list: &mut [u8]) -> io::Result<usize>
-    requires enough { length list.old ≡ 4609 }
-    ensures { IfOk result (λ n. n ≤ length list.old) }
+    ensures within { IfOk result (λ n. n ≤ length list.old) }
+    ensures bytes { IfOk result (λ n. Consumes (R.remaining from.old) (R.remaining from.new) (take n list.new)) }
+    ensures whole { IfOk result (λ n. n < length list.old → IsAtEnd (R.remaining from.new)) }
 {
     let mut n = 0;
     for _ in 0..u64::MAX {
         if n == list.len() {
-            break;
+            return Ok(n);
         }
         match from.read(&mut list[n..]) {
-            Ok(0) => break,
+            Ok(0) => return Ok(n),
             Ok(count) => n += count,
             Err(e) if e.kind() == ErrorKind::Interrupted => {}
             Err(e) => return Err(e),
         }
     }
-    Ok(n)
+    Err(io::Error::from(ErrorKind::Interrupted))
+}
+
+// The verdict on all that a reader gives, of which the front tells it.
+fn verdict<R: Read>(from: &mut R) -> io::Result<Result<usize, CheckError>>
+    ensures { IfOk result (λ v. IfSome (R.remaining from.old) (λ list. said_check v ≡ check_of list)) }
+{
+    let mut front = [0u8; ENOUGH];
+    let n = read_front(from, &mut front)?;
+    Ok(treated::check(&front[..n]))
 }
 
 fn word(fault: Fault) -> &'static str {
@@ -69,10 +82,9 @@ fn say<P: Print + Eprint>(rt: &P, answer: Result<usize, CheckError>) -> bool {
 }
 
 fn main(rt: HostRuntime) {
-    let mut list = [0u8; ENOUGH];
-    match read_front(&mut rt.stdin(), &mut list) {
-        Ok(n) => {
-            say(&rt, treated::check(&list[..n]));
+    match verdict(&mut rt.stdin()) {
+        Ok(answer) => {
+            say(&rt, answer);
         }
         Err(e) => fail(&rt, "standard input", e),
     }

@@ -32,7 +32,7 @@ pub fn print<P: Print + Eprint>(rt: &P, bytes: &[u8]) -> bool {
 }
 
 // Says what failed and why, in a line of its own: what it was, a colon, and the system's words for it. Where that
-// fails there is nobody to be told. Stays over a buffer: what fails may be that there is no memory.
+// fails there is nobody to be told. Stays over a buffer: the programs ask for no memory.
 pub fn fail<E: Eprint>(rt: &E, what: &str, error: io::Error) {
     let mut text = [0u8; 128];
     let reason = reason_of(put_error(&mut text, error));
