@@ -11,7 +11,7 @@ ghost use Rattle.text.specs.Inside.Putting.{lowest};
 pub(crate) fn natural_length(n: u64) -> usize
     ensures { result ≡ length (natural n) }
 {
-    // Most are of one digit, and need no logarithm.
+    // One digit needs no logarithm: with it a polygon of short numbers took a quarter longer and more.
     if n < 10 {
         return 1;
     }
