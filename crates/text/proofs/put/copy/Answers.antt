@@ -1,5 +1,5 @@
 -- The first k bytes are in place.
-use Rattle.std.proofs.Common.{arith, length, ◌∙◌, length-set}
+use Rattle.std.proofs.Common.{arith, ◌∙◌, length-set}
 use Rattle.text.proofs.PutLaws.{copy_more}
 use Rattle.text.proofs.put.copy.Goals as goal
 
